@@ -7,6 +7,7 @@
 #   what a read, a write, a closing or a function makes of a file is handed on in its turn. Only a function that gives no file back, such as main, may end
 #   with a structure of which it hands on no file, and it with one.
 # A field of a structure is a file of its own; a name that is given to a field stands for it.
+# A path ends at a return, and at an unreachable!(), which is proved not to be reached. What Ok, Err and Some hold is no file.
 # It prints FILE:LINE: and what is wrong. Where it cannot follow a file, it prints that.
 
 # ---- words
@@ -462,6 +463,39 @@ function walk_structure(i) {
     return i + 1
 }
 
+# is_unreachable I: whether an unreachable!() is at I.
+function is_unreachable(i) {
+    return tok[i] == "unreachable" && tok[i + 1] == "!" && tok[i + 2] == "("
+}
+
+# else_of I: where the else of a let is whose expression is at I.
+function else_of(i,    depth) {
+    depth = 0
+    while (i <= n && (depth > 0 || tok[i] !~ /^(;|else)$/)) {
+        if (tok[i] ~ /^[([{]$/)
+            depth++
+        else if (tok[i] ~ /^[])}]$/)
+            depth--
+        i++
+    }
+    return tok[i] == "else" ? i : 0
+}
+
+# walk_else I: the block of a let .. else, where the pattern did not fit. It leaves; where that is for the end of a loop, what it handed on stays so.
+function walk_else(i,    before, drops) {
+    before = used
+    drops = dropped
+    i = walk_block(i)
+    if (ended) {
+        used = before
+        dropped = drops
+    } else
+        used = either(before, used)
+    ended = 0
+    given = 0
+    return i
+}
+
 # walk I STOP: an expression, up to one of these words.
 function walk(i, stop,    depth) {
     depth = 0
@@ -485,13 +519,17 @@ function walk(i, stop,    depth) {
 }
 
 # After a block: ended where it left the function, given where its last expression has to do with a file.
-function walk_block(i) {
+function walk_block(i,    before) {
     level++
+    before = touched
     ended = 0
     given = 0
     i++
     while (i <= n && tok[i] != "}")
         i = walk_statement(i)
+    # What a block that left the function handed on is no part of the value that it is in.
+    if (ended)
+        touched = before
     close_scope(level)
     level--
     return i + 1
@@ -576,7 +614,10 @@ function walk_control(i,    before, after, all, some, word, turn, drops, most) {
             given = 0
             if (tok[i] == "{")
                 i = walk_block(i)
-            else {
+            else if (is_unreachable(i)) {
+                i = past(i + 2)
+                ended = 1
+            } else {
                 turn = touched
                 i = walk(i, ",}")
                 given = touched > turn
@@ -636,7 +677,7 @@ function take(i, name,    end, before, type, known) {
     return end + 1
 }
 
-function walk_statement(i,    start, before, name, id) {
+function walk_statement(i,    start, before, name, id, pattern, other) {
     start = i
     before = touched
     given = 0
@@ -645,9 +686,25 @@ function walk_statement(i,    start, before, name, id) {
         if (tok[i] == "mut")
             i++
         name = tok[i]
+        pattern = name ~ /^(Ok|Err|Some)$/ && tok[i + 1] == "(" && is_name(tok[i + 2]) && tok[i + 3] == ")"
+        if (pattern)
+            name = tok[i + 2]
         while (i <= n && tok[i] != "=")
             i++
+        other = pattern ? else_of(i + 1) : 0
+        if (other)
+            tok[other] = ";"
         i = take(i + 1, name)
+        if (other) {
+            tok[other] = "else"
+            if (carries(take_type))
+                say(start, name ": what becomes of a file here cannot be followed")
+            i = walk_else(other + 1)
+            take_type = ""
+            take_value = ""
+            if (tok[i] == ";")
+                i++
+        }
         bind(name, take_type, take_value, level)
         if (carries(take_type) && name ~ /^_/)
             say(start, "the answer is thrown away")
@@ -658,6 +715,12 @@ function walk_statement(i,    start, before, name, id) {
     }
     if (tok[i] == "return") {
         i = walk(i + 1, ";}")
+        ended = 1
+        given = 0
+        return tok[i] == ";" ? i + 1 : i
+    }
+    if (is_unreachable(i)) {
+        i = past(i + 2)
         ended = 1
         given = 0
         return tok[i] == ";" ? i + 1 : i

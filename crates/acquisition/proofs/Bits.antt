@@ -1,6 +1,7 @@
 -- What a call of the aligner counts, and two calls that take all bits of a run.
 -- Assumes nothing.
-use mathlib.Core.Path.{◌≡◌, refl, sym, subst}
+use Rattle.std.specs.Prelude.{None, Ok, Err, is_some}
+use mathlib.Core.Path.{◌≡◌, refl, sym, ap, subst}
 use mathlib.Core.Bool.{Bool, true, false}
 use mathlib.Core.List.{List, ◌++◌}
 use Prim.Native.Nat.{ℕ, ◌+◌, ◌-◌, ◌≤◌, ◌<◌}
@@ -8,14 +9,15 @@ use native.Mathlib.Omega.{arith}
 use lib.ListN.{length, take, drop, replicate, length-append, length-drop, length-replicate}
 use Rattle.common.specs.Choice.{pick}
 use Rattle.common.specs.Lists.{padded}
-use Rattle.block_sync.specs.Decision.{Decides, used_bits, follows, begins, searches}
+use Rattle.block_sync.specs.Decision.{Decides, used_bits, block_given, follows, begins, searches}
 use Rattle.block_sync.specs.Feed.{held_bits, TurnsBuffer, FeedsSync, refused, gathered, turned}
+use Rattle.answer.specs.declared.Refusal.{Refusal}
 use Rattle.block_sync.specs.declared.Lock.{Lock}
 use Rattle.block_sync.specs.declared.Decision.{Decision}
 use Rattle.block_sync.specs.declared.BlockSync.{BlockSync}
 use Rattle.block_sync.specs.declared.SyncStep.{SyncStep}
 use Rattle.block_sync.proofs.Decisions.{used_within, skipped_within}
-use Rattle.block_sync.proofs.Buffers.{held_length, full_length}
+use Rattle.block_sync.proofs.Buffers.{held_length, full_length, given_same}
 use Rattle.acquisition.specs.Reading.{used_by, TakesBits}
 
 pub padded_length : (size : ℕ) (l : List ℕ) → length l ≤ size → length (padded size l) ≡ size
@@ -31,7 +33,7 @@ pub record FeedCounts (s : BlockSync) (piece : List ℕ) (r : SyncStep) : Type 0
   pub held_few : r.sync.held < 8168
   pub skipped_few : r.skipped ≤ 8168
   pub sized : length r.sync.bits ≡ 8168
-  pub gathers_all : s.held + length piece < 8168 → (r.taken ≡ length piece) × (r.given ≡ false) × (r.skipped ≡ 0)
+  pub gathers_all : s.held + length piece < 8168 → (r.taken ≡ length piece) × (r.block ≡ None) × (r.skipped ≡ 0)
   pub rest_few : length piece ≤ 1632 → r.sync.held + (length piece - r.taken) < 8168
 
 -- a decision on a full buffer
@@ -48,10 +50,11 @@ turn_counts s piece l r h f n t =
     let k : d.skipped ≤ length l = skipped_within t.decides in
     let b : 1632 ≤ used_bits d = uses_some n t.decides in
     let z : length (drop (used_bits d) l) ≡ length l - used_bits d = length-drop (used_bits d) l in
+    let same : d.skipped + pick (is_some (block_given d l)) 1632 0 ≡ used_bits d = ap (λ (b : Bool). d.skipped + pick b 1632 0) (given_same d.begins _) in
     subst (λ (x : SyncStep). FeedCounts s piece x) (sym t.result)
     (record {
       taken_most = omega (arith, h, f);
-      whole = omega (arith, u, z, n, h);
+      whole = omega (arith, u, z, n, h, same);
       held_few = omega (arith, u, z, n, b);
       skipped_few = omega (arith, k, n);
       sized = padded_length 8168 (drop (used_bits d) l) (omega (arith, z, n));
@@ -59,8 +62,7 @@ turn_counts s piece l r h f n t =
       rest_few = λ m. omega (arith, u, z, n, b, m, h);
     })
 
-pub feed_counts : (s : BlockSync) (piece : List ℕ) (r : SyncStep) → length s.bits ≡ 8168 → s.held < 8168 → FeedsSync s piece r → FeedCounts s piece r
-feed_counts s piece r e h (refused g x) = absurd (omega (arith, g, h))
+pub feed_counts : (s : BlockSync) (piece : List ℕ) (r : SyncStep) → length s.bits ≡ 8168 → s.held < 8168 → FeedsSync s piece (Ok r) → FeedCounts s piece r
 feed_counts s piece r e h (gathered g x) =
     let n : length (held_bits s) ≡ s.held = held_length s e (omega (arith, h)) in
     let m : length (held_bits s ++ piece) ≡ length (held_bits s) + length piece = length-append (held_bits s) piece in
@@ -76,10 +78,14 @@ feed_counts s piece r e h (gathered g x) =
     })
 feed_counts s piece r e h (turned g f t) = turn_counts s piece (held_bits s ++ take (8168 - s.held) piece) r h f (full_length s piece e h (omega (arith, f))) t
 
+-- refused where more bits are held than the buffer has room for
+pub refused_full : {s : BlockSync} {piece : List ℕ} {a : Refusal} → FeedsSync s piece (Err a) → 8168 ≤ s.held
+refused_full (refused h) = h
+
 -- two calls take all bits of a run, and the second decides nothing
 pub takes_bits : (s : BlockSync) (bits : List ℕ) (f g : SyncStep) → length s.bits ≡ 8168 → s.held < 8168 → length bits ≤ 1632
-    → FeedsSync s bits f → FeedsSync f.sync (drop f.taken bits) g
-    → TakesBits s bits (record { answer = f.answer; taken = length bits; skipped = f.skipped; given = f.given; begins = f.begins; block = f.block; sync = g.sync })
+    → FeedsSync s bits (Ok f) → FeedsSync f.sync (drop f.taken bits) (Ok g)
+    → TakesBits s bits (record { taken = length bits; skipped = f.skipped; block = f.block; sync = g.sync })
 takes_bits s bits f g e h n x y =
     let a = feed_counts s bits f e h x in
     let b = feed_counts f.sync (drop f.taken bits) g a.sized a.held_few y in
@@ -101,7 +107,7 @@ takes_bits s bits f g e h n x y =
       result = refl;
     }
   where
-    none_used : (r : SyncStep) → r.given ≡ false → r.skipped ≡ 0 → used_by r ≡ 0
+    none_used : (r : SyncStep) → r.block ≡ None → r.skipped ≡ 0 → used_by r ≡ 0
     none_used r p q = simp (p, q)
 
 -- what is known of a run's bits that were taken
@@ -129,4 +135,4 @@ taken_few s bits r e h t =
     by false k l = omega (arith, l)
 
     few : (x : SyncStep) → x.skipped ≤ 8168 → used_by x ≤ 9800
-    few x l = by x.given x.skipped l
+    few x l = by (is_some x.block) x.skipped l

@@ -9,7 +9,7 @@ use lib.ListN.{length, take, drop, length-drop, length-take}
 use Rattle.reader_stream.specs.Runs.{RunsReady}
 use Rattle.reader_stream.proofs.Runs.{held_length}
 use Rattle.node_search.specs.declared.Search.{Search}
-use Rattle.acquisition.specs.Reading.{ReadsSymbols, ReadingReady}
+use Rattle.acquisition.specs.Reading.{RateKnown, ReadsSymbols, ReadingReady}
 use Rattle.acquisition.specs.Step.{pending_of, reading_on, ReadingOf, SearchReady, ReadReady, AcquisitionReady, AfterSearch, found, nothing, several, ends_reading, mirrored_next, lost_reading, after_reading, SearchesOn, gathers, fills, ReadsPending, ReadsPiece, StepCounts}
 use Rattle.acquisition.specs.End.{ClosesReading, ClosesBlocks}
 use Rattle.acquisition.specs.declared.Reading.{Reading}
@@ -18,6 +18,8 @@ use Rattle.acquisition.specs.declared.ReadStep.{ReadStep}
 use Rattle.acquisition.specs.declared.Step.{Step}
 use Rattle.acquisition.specs.declared.Event.{Event}
 use Rattle.acquisition.specs.declared.Event.TheVariants.{Waits, Block, Lost}
+use Prim.{tt}
+use Rattle.acquisition.proofs.Events.{settled_known}
 use Rattle.acquisition.proofs.Bits.{taken_few}
 use Rattle.acquisition.proofs.Ready.{searching_ready, reading_ready, pending_length, read_taken}
 use Rattle.acquisition.proofs.Ends.{finish_counts, close_counts}
@@ -31,13 +33,13 @@ search_came several = refl
 
 pub searches_counts : (s : Acquisition) (piece : List ℕ) (r : Step) → SearchReady s → r.taken ≤ length piece → SearchesOn s piece r → StepCounts s piece r
 searches_counts s piece r g n (gathers l e) =
-    subst (StepCounts s piece) (sym e) (record { taken_most = omega arith; came_is = refl; rate_known = omega arith; goes = λ p z. absurd (omega (arith, p, z)) })
+    subst (StepCounts s piece) (sym e) (record { taken_most = omega arith; came_is = refl; rate_known = tt; goes = λ p z. absurd (omega (arith, p, z)) })
 searches_counts s piece r g n (fills l x) =
     subst (StepCounts s piece) (sym x.result)
     (record {
       taken_most = omega (arith, n, ap (λ (y : Step). y.taken) x.result);
       came_is = search_came x.after;
-      rate_known = omega arith;
+      rate_known = tt;
       goes = λ p z. absurd (omega (arith, z, g.window_few));
     })
 
@@ -45,7 +47,7 @@ searches_counts s piece r g n (fills l x) =
 
 pub after_came : (s : Acquisition) (t : ReadStep) (pending : List ℕ) (came : ℕ) (event : Event) → (after_reading s t pending came event).came ≡ came
 after_came s t pending came Waits = refl
-after_came s t pending came Block = refl
+after_came s t pending came (Block b) = refl
 after_came s t pending came Lost = by (ends_reading s.reading.sync.lock.locked s.reading.used)
   where
     by : (ends : Bool) → (lost_reading s t.reading pending came ends).came ≡ came
@@ -54,7 +56,7 @@ after_came s t pending came Lost = by (ends_reading s.reading.sync.lock.locked s
 
 after_held : (s : Acquisition) (t : ReadStep) (pending : List ℕ) (came : ℕ) (event : Event) → (after_reading s t pending came event).held ≡ length pending
 after_held s t pending came Waits = refl
-after_held s t pending came Block = refl
+after_held s t pending came (Block b) = refl
 after_held s t pending came Lost = by (ends_reading s.reading.sync.lock.locked s.reading.used)
   where
     by : (ends : Bool) → (lost_reading s t.reading pending came ends).held ≡ length pending
@@ -62,8 +64,8 @@ after_held s t pending came Lost = by (ends_reading s.reading.sync.lock.locked s
     by false = refl
 
 -- the block is of the reading's rate
-block_known : {k : Reading} {symbols : List ℕ} {t : ReadStep} → ReadingReady k → ReadsSymbols k symbols t → t.block.rate < 5
-block_known g x = rw x.settles.block_is g.runs_ready.known
+block_known : {k : Reading} {symbols : List ℕ} {t : ReadStep} → ReadingReady k → ReadsSymbols k symbols t → RateKnown t.event
+block_known g x = settled_known g.runs_ready.known x.settles
 
 pub pending_counts : (s : Acquisition) (piece : List ℕ) (r : Step) → ReadReady s → 0 < s.held → ReadsPending s r → StepCounts s piece r
 pending_counts s piece r g h x =
@@ -131,7 +133,7 @@ closed_ready s t g b z x = by
 
     by : (event : Event) → AcquisitionReady (after_reading s t [] s.came event)
     by Waits = reading_ready s.rate s.mirrored t.reading [] s.came g.read_known (omega arith) tt (omega arith) b (of s.rate s.mirrored)
-    by Block = reading_ready s.rate s.mirrored t.reading [] s.came g.read_known (omega arith) tt (omega arith) b (of s.rate s.mirrored)
+    by (Block y) = reading_ready s.rate s.mirrored t.reading [] s.came g.read_known (omega arith) tt (omega arith) b (of s.rate s.mirrored)
     by Lost = lost (ends_reading s.reading.sync.lock.locked s.reading.used)
 
 -- the runs are closed
@@ -141,7 +143,7 @@ runs_closed k t g x =
     let few = taken_few k.sync (take x.count x.exit) d g.sync_sized g.sync_small x.settles.takes in
     let n = close_counts k.runs x.output x.exit x.count x.rest g.runs_ready x.closes in
     let z : x.opened.count ≡ 0 = sym (held_length x.opened x.ready) ∙ ap length x.empty.held_is in
-    subst (λ (y : Reading). Closed k (record { reading = y; taken = t.taken; event = t.event; block = t.block })) (sym x.settles.reading)
+    subst (λ (y : Reading). Closed k (record { reading = y; taken = t.taken; event = t.event })) (sym x.settles.reading)
     (record {
       runs_ready = x.ready;
       turn_is = refl;
@@ -156,7 +158,7 @@ runs_closed k t g x =
 pub blocks_closed : (k : Reading) (t : ReadStep) → ReadingReady k → ClosesBlocks k t → Closed k t
 blocks_closed k t g x =
     let c = finish_counts k.sync x.decided g.sync_sized g.sync_small x.finishes in
-    subst (λ (y : Reading). Closed k (record { reading = y; taken = t.taken; event = t.event; block = t.block })) (sym x.reading)
+    subst (λ (y : Reading). Closed k (record { reading = y; taken = t.taken; event = t.event })) (sym x.reading)
     (record {
       runs_ready = g.runs_ready;
       turn_is = refl;

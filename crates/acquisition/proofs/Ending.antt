@@ -1,16 +1,14 @@
 -- Every step of the end leaves less to do, until it is over.
 -- Assumes nothing.
 use mathlib.Core.Path.{◌≡◌, refl, sym, ◌∙◌, ap, subst}
-use mathlib.Core.Bool.{Bool, true, false, not, true≢false}
+use mathlib.Core.Bool.{Bool, true, false, true≢false}
 use mathlib.Core.List.{List, []}
-use Prim.Native.Nat.{ℕ, ◌+◌, ◌*◌, ◌<◌, ◌≤◌}
+use Prim.Native.Nat.{ℕ, ◌+◌, ◌*◌, ◌<◌}
 use native.Mathlib.Omega.{arith}
-use lib.Dec.{T, ltb, ltb→lt, nltb→le}
 use lib.ListN.{length, take, drop, length-drop, length-take}
-use Rattle.common.specs.Choice.{pick}
 use Rattle.reader_stream.proofs.Runs.{held_length}
 use Rattle.acquisition.specs.Step.{pending_of, searching_on, ReadReady, AcquisitionReady, ends_reading, lost_reading, after_reading}
-use Rattle.acquisition.specs.End.{last_event, over_with, proceeds, end_of_blocks, EndsBlocks, EndsPending, EndsRuns, end_measure, EndCounts}
+use Rattle.acquisition.specs.End.{over_with, proceeds, end_of_blocks, EndsBlocks, EndsPending, EndsRuns, end_measure, EndCounts}
 use Rattle.acquisition.specs.declared.Reading.{Reading}
 use Rattle.acquisition.specs.declared.ReadStep.{ReadStep}
 use Rattle.acquisition.specs.declared.Phase.TheVariants.{Reads}
@@ -21,42 +19,11 @@ use Rattle.acquisition.specs.declared.Event.TheVariants.{Waits, Block, Lost}
 use Rattle.acquisition.proofs.Bits.{taken_few}
 use Rattle.acquisition.proofs.Symbols.{run_counts}
 use Rattle.acquisition.proofs.Ready.{searching_ready, pending_length, read_taken}
+use Rattle.acquisition.proofs.Events.{settled_known, last_known, block_given_lem, few_left}
 use Rattle.acquisition.proofs.Ends.{finish_counts}
+use Rattle.acquisition.specs.Reading.{RateKnown}
+use Prim.{tt}
 use Rattle.acquisition.proofs.Counts.{after_came, pending_counts, closed_ready, runs_closed, blocks_closed}
-
--- ---- events
-
-abbrev number : Event → ℕ
-number Waits = 0
-number Block = 1
-number Lost = 2
-
--- a block was given
-pub block_given_lem : (g : Bool) (h : ℕ) → last_event g h ≡ Block → g ≡ true
-block_given_lem true h e = refl
-block_given_lem false h e = other (ltb h 1632) e
-  where
-    other : (t : Bool) → pick t Waits Lost ≡ Block → false ≡ true
-    other true q = let n : number Waits ≡ number Block = ap number q in absurd (omega (arith, n))
-    other false q = let n : number Lost ≡ number Block = ap number q in absurd (omega (arith, n))
-
--- few bits are left where it is over
-pub few_left : (g : Bool) (h : ℕ) → last_event g h ≡ Waits → h < 1632
-few_left true h e = let n : number Block ≡ number Waits = ap number e in absurd (omega (arith, n))
-few_left false h e = other (ltb h 1632) refl e
-  where
-    other : (t : Bool) → ltb h 1632 ≡ t → pick t Waits Lost ≡ Waits → h < 1632
-    other true p q = ltb→lt h 1632 (subst T (sym p) tt)
-    other false p q = let n : number Lost ≡ number Waits = ap number q in absurd (omega (arith, n))
-
--- more are left where it is lost
-pub lost_many : (g : Bool) (h : ℕ) → last_event g h ≡ Lost → 1632 ≤ h
-lost_many true h e = let n : number Block ≡ number Lost = ap number e in absurd (omega (arith, n))
-lost_many false h e = other (ltb h 1632) refl e
-  where
-    other : (t : Bool) → ltb h 1632 ≡ t → pick t Waits Lost ≡ Lost → 1632 ≤ h
-    other true p q = let n : number Waits ≡ number Lost = ap number q in absurd (omega (arith, n))
-    other false p q = nltb→le h 1632 (subst (λ (b : Bool). T (not b)) (sym p) tt)
 
 -- ---- what is left to do
 
@@ -66,7 +33,7 @@ reads_measure s e = rw e refl
 after_measure : (s : Acquisition) (t : ReadStep) (pending : List ℕ) (came m : ℕ) → 1 + t.reading.sync.held + 4 * t.reading.runs.count + 5 * length pending < m
     → (event : Event) → end_measure (after_reading s t pending came event) < m
 after_measure s t pending came m h Waits = h
-after_measure s t pending came m h Block = h
+after_measure s t pending came m h (Block b) = h
 after_measure s t pending came m h Lost = by (ends_reading s.reading.sync.lock.locked s.reading.used)
   where
     by : (ends : Bool) → end_measure (lost_reading s t.reading pending came ends) < m
@@ -76,7 +43,7 @@ after_measure s t pending came m h Lost = by (ends_reading s.reading.sync.lock.l
 -- ---- the steps
 
 pub over_counts : (s : Acquisition) (left : ℕ) (t : Acquisition) → t.came ≡ s.came → left < 1632 → EndCounts s (over_with t left)
-over_counts s left t e h = record { came_is = e; rate_known = omega arith; left_few = h; goes = λ p. absurd (true≢false p) }
+over_counts s left t e h = record { came_is = e; rate_known = tt; left_few = h; goes = λ p. absurd (true≢false p) }
 
 pub pending_end_counts : (s : Acquisition) (r : EndStep) → ReadReady s → s.phase ≡ Reads → 0 < s.held → EndsPending s r → EndCounts s r
 pending_end_counts s r g ph h x =
@@ -113,7 +80,7 @@ pending_end_counts s r g ph h x =
     (record {
       came_is = omega (arith, c.came_is, ap (λ q. q.taken) y.result);
       rate_known = c.rate_known;
-      left_few = omega arith;
+      left_few = tt;
       goes = λ p. rw y.result m;
     })
 
@@ -129,8 +96,8 @@ runs_end_counts s r g ph h e x =
     subst (EndCounts s) (sym x.result)
     (record {
       came_is = after_came s t [] s.came t.event;
-      rate_known = rw y.settles.block_is ready.runs_ready.known;
-      left_few = omega arith;
+      rate_known = settled_known ready.runs_ready.known y.settles;
+      left_few = tt;
       goes = λ p. after_measure s t [] s.came (end_measure s) less t.event;
     })
 
@@ -140,23 +107,23 @@ blocks_end_counts s r g ph x = subst (EndCounts s) (sym x.result) (by x.step.eve
     on : end_measure (after_reading s x.step [] s.came x.step.event) < end_measure s → EndCounts s (proceeds s x.step)
     on m = record {
       came_is = after_came s x.step [] s.came x.step.event;
-      rate_known = rw x.closes.block_is g.reading_of.ready.runs_ready.known;
-      left_few = omega arith;
+      rate_known = subst RateKnown (sym x.closes.event_is) (last_known _ x.closes.decided.block s.reading.sync.held (λ z. g.reading_of.ready.runs_ready.known));
+      left_few = tt;
       goes = λ p. m;
     }
 
     by : (e : Event) → x.step.event ≡ e → EndCounts s (end_of_blocks s x.step e)
-    by Waits q = over_counts s s.reading.sync.held (searching_on s.rate s.mirrored [] s.came) refl (few_left x.closes.decided.given s.reading.sync.held (sym x.closes.event_is ∙ q))
-    by Block q =
+    by Waits q = over_counts s s.reading.sync.held (searching_on s.rate s.mirrored [] s.came) refl (few_left _ s.reading.sync.held (sym x.closes.event_is ∙ q))
+    by (Block b) q =
         let c = finish_counts s.reading.sync x.closes.decided g.reading_of.ready.sync_sized g.reading_of.ready.sync_small x.closes.finishes in
-        let used = c.uses_block (block_given_lem x.closes.decided.given s.reading.sync.held (sym x.closes.event_is ∙ q)) in
+        let used = c.uses_block (block_given_lem _ x.closes.decided.block s.reading.sync.held (sym x.closes.event_is ∙ q)) in
         let held : x.step.reading.sync.held ≡ x.closes.decided.sync.held = ap (λ (k : Reading). k.sync.held) x.closes.reading in
         let count : x.step.reading.runs.count ≡ s.reading.runs.count = ap (λ (k : Reading). k.runs.count) x.closes.reading in
         on (after_measure s x.step [] s.came (end_measure s) (omega (arith, reads_measure s ph, c.whole, used, held, count)) x.step.event)
     by Lost q = record {
       came_is = refl;
-      rate_known = rw x.closes.block_is g.reading_of.ready.runs_ready.known;
-      left_few = omega arith;
+      rate_known = tt;
+      left_few = tt;
       goes = λ p. omega (arith, reads_measure s ph);
     }
 
@@ -165,5 +132,5 @@ blocks_ready s r g b z x = subst (λ (y : EndStep). AcquisitionReady y.acquisiti
   where
     by : (e : Event) → AcquisitionReady (end_of_blocks s x.step e).acquisition
     by Waits = searching_ready s.rate s.mirrored [] s.came g.read_known (omega arith) tt (omega arith) b
-    by Block = closed_ready s x.step g b z (blocks_closed s.reading x.step g.reading_of.ready x.closes) x.step.event
+    by (Block found) = closed_ready s x.step g b z (blocks_closed s.reading x.step g.reading_of.ready x.closes) x.step.event
     by Lost = searching_ready s.rate s.mirrored [] s.came g.read_known (omega arith) tt (omega arith) b

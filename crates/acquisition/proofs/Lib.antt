@@ -2,6 +2,7 @@ pub mod Numbers
 pub mod Bits
 pub mod Symbols
 pub mod Ready
+pub mod Events
 pub mod Ends
 pub mod Counts
 pub mod Ending

@@ -1,5 +1,7 @@
 -- The numbers of the rates, and what a place among a reading's bits is in symbols.
 -- Assumes nothing.
+use Rattle.std.specs.Prelude.{Some}
+use Rattle.block_sync.specs.declared.GivenBlock.{GivenBlock}
 use mathlib.Core.Path.{◌≡◌, refl}
 use Prim.Native.Nat.{ℕ, zero, suc, ◌+◌, ◌-◌, ◌*◌, ◌/◌, ◌<◌, ◌≤◌}
 use native.Mathlib.Omega.{arith}
@@ -10,7 +12,6 @@ use Rattle.puncturing.specs.Step.{pattern_length}
 use Rattle.reader.specs.Read.{symbols_per_pattern}
 use Rattle.free_start.specs.Lead.{lead_patterns, lead_symbols, bits_of_lead}
 use Rattle.block_sync.specs.declared.SyncStep.{SyncStep}
-use Rattle.acquisition.specs.declared.FoundBlock.{FoundBlock}
 use Rattle.acquisition.specs.Reading.{symbol_at, turn_told, block_found}
 
 -- what the numbers of a rate are bounded by
@@ -48,7 +49,7 @@ symbol_before rate first bit h b =
     omega (arith, z, m)
 
 -- the parts of a block that was found
-pub found_is : (rate turn first used : ℕ) (d : SyncStep) {t a b : ℕ} → t ≡ turn_told turn d.sync.lock.inverted → a ≡ symbol_at rate first (used + d.skipped)
+pub found_is : (rate turn first used : ℕ) (d : SyncStep) {g : GivenBlock} {t a b : ℕ} → d.block ≡ Some g → t ≡ turn_told turn d.sync.lock.inverted → a ≡ symbol_at rate first (used + d.skipped)
     → b ≡ symbol_at rate first (used + d.skipped + 1632)
-    → ◌≡◌ {A = FoundBlock} (record { begins = d.begins; rate = rate; turn = t; start = a; end = b; bytes = d.block }) (block_found rate turn first used d)
-found_is rate turn first used d e f g = rw (e, f, g) refl
+    → Some (record { begins = g.begins; rate = rate; turn = t; start = a; end = b; bytes = g.bytes }) ≡ block_found rate turn first used d
+found_is rate turn first used d q e f g = rw (q, e, f, g) refl

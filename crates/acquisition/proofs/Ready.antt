@@ -149,7 +149,7 @@ pub after_reading_ready : (s : Acquisition) (symbols pending : List ℕ) (came :
     → ReadsSymbols s.reading symbols t → (event : Event) → AcquisitionReady (after_reading s t pending came event)
 after_reading_ready s symbols pending came t k g n a l m c b e x Waits =
     reading_ready s.rate s.mirrored t.reading pending came k (omega (arith, l)) a m b (read_of s symbols pending came t g n c b e x s.rate s.mirrored)
-after_reading_ready s symbols pending came t k g n a l m c b e x Block =
+after_reading_ready s symbols pending came t k g n a l m c b e x (Block y) =
     reading_ready s.rate s.mirrored t.reading pending came k (omega (arith, l)) a m b (read_of s symbols pending came t g n c b e x s.rate s.mirrored)
 after_reading_ready s symbols pending came t k g n a l m c b e x Lost = by (ends_reading s.reading.sync.lock.locked s.reading.used)
   where
@@ -185,7 +185,7 @@ read_taken k symbols t g x =
     (omega (arith, r.taken_most, n, x.settles.taken_is), λ p. omega (arith, r.taken_some (omega (arith, n, p)), x.settles.taken_is))
 
 -- the front of a piece by the least of two numbers
-pub front_is : (piece : List ℕ) (n : ℕ) → n ≡ min 1632 (length piece) → take n piece ≡ take 1632 piece
+pub front_is : (piece : List ℕ) (n : ℕ) → n ≡ min (length piece) 1632 → take n piece ≡ take 1632 piece
 front_is piece n e = ⊎_elim (λ z. ap (λ (k : ℕ). take k piece) (exactly z)) (λ p. all p) (eq-zero-or-pos (1632 - length piece))
   where
     all : 0 < 1632 - length piece → take n piece ≡ take 1632 piece

@@ -1,14 +1,14 @@
 -- What acquisition does after the last symbol: what is pending is read, then what the runs hold, and then the bits that are left are decided, call after call.
 -- Clauses: EN 300 421, 4.4.2 and 4.4.3, note 1 (source document 002).
 -- Assumes nothing.
-use Rattle.std.specs.Prelude.{◌≡◌, Bool, true, false, List, [], ℕ, ◌+◌, ◌*◌, ◌<◌, ltb, take}
+use Rattle.std.specs.Prelude.{◌≡◌, List, [], ℕ, ◌+◌, ◌*◌, ◌<◌, ltb, take, Option, Some, None, Ok, IfSome, IsNone}
 use Rattle.common.specs.Choice.{pick}
 use Rattle.reader_stream.specs.Runs.{RunsReady, RunsHold, ClosesRuns}
 use Rattle.reader_stream.specs.declared.symbol_runs.SymbolRuns.{SymbolRuns}
 use Rattle.block_sync.specs.Feed.{FinishesSync}
 use Rattle.block_sync.specs.declared.SyncStep.{SyncStep}
-use Rattle.acquisition.specs.Reading.{used_by, block_found, SettlesBits}
-use Rattle.acquisition.specs.Step.{searching_on, after_reading, waiting, ReadsPending}
+use Rattle.acquisition.specs.Reading.{used_by, block_found, RateKnown, SettlesBits}
+use Rattle.acquisition.specs.Step.{searching_on, after_reading, ReadsPending}
 use Rattle.acquisition.specs.declared.Reading.{Reading}
 use Rattle.acquisition.specs.declared.ReadStep.{ReadStep}
 use Rattle.acquisition.specs.declared.Phase.{Phase}
@@ -16,6 +16,7 @@ use Rattle.acquisition.specs.declared.Phase.TheVariants.{Searches, Reads}
 use Rattle.acquisition.specs.declared.Acquisition.{Acquisition}
 use Rattle.acquisition.specs.declared.Step.{Step}
 use Rattle.acquisition.specs.declared.EndStep.{EndStep}
+use Rattle.acquisition.specs.declared.FoundBlock.{FoundBlock}
 use Rattle.acquisition.specs.declared.Event.{Event}
 use Rattle.acquisition.specs.declared.Event.TheVariants.{Waits, Block, Lost}
 
@@ -32,30 +33,30 @@ pub record ClosesReading (k : Reading) (r : ReadStep) : Type 0 where
   pub settles : SettlesBits k opened 0 (take count exit) r
 
 -- What a decision on the last bits means: a block was found; or the end has come, with fewer bits than a block has; or none follows.
-abbrev pub last_event : Bool → ℕ → Event
-last_event given held = pick given Block (pick (ltb held 1632) Waits Lost)
+abbrev pub last_event : Option FoundBlock → ℕ → Event
+last_event (Some b) held = Block b
+last_event None held = pick (ltb held 1632) Waits Lost
 
 pub record ClosesBlocks (k : Reading) (r : ReadStep) : Type 0 where
   pub decided : SyncStep
-  pub finishes : FinishesSync k.sync decided
+  pub finishes : FinishesSync k.sync (Ok decided)
   pub reading : r.reading ≡ record { turn = k.turn; runs = k.runs; sync = decided.sync; first = k.first; used = k.used + used_by decided }
   pub taken_is : r.taken ≡ 0
-  pub event_is : r.event ≡ last_event decided.given k.sync.held
-  pub block_is : r.block ≡ block_found k.runs.rate k.turn k.first k.used decided
+  pub event_is : r.event ≡ last_event (block_found k.runs.rate k.turn k.first k.used decided) k.sync.held
 
 -- it is over, with so many bits behind the last block
 abbrev pub over_with : Acquisition → ℕ → EndStep
-over_with s left = record { acquisition = s; event = Waits; block = (waiting s 0).block; over = true; left = left }
+over_with s left = record { acquisition = s; event = Waits; over = Some left }
 
 -- it goes on
 abbrev pub proceeds : Acquisition → ReadStep → EndStep
-proceeds s t = record { acquisition = after_reading s t [] s.came t.event; event = t.event; block = t.block; over = false; left = 0 }
+proceeds s t = record { acquisition = after_reading s t [] s.came t.event; event = t.event; over = None }
 
 -- The end of the bits: it is over where fewer are left than a block has. Where no block follows in more, the reading is.
 abbrev pub end_of_blocks : Acquisition → ReadStep → Event → EndStep
 end_of_blocks s t Waits = over_with (searching_on s.rate s.mirrored [] s.came) s.reading.sync.held
-end_of_blocks s t Block = proceeds s t
-end_of_blocks s t Lost = record { acquisition = searching_on s.rate s.mirrored [] s.came; event = Lost; block = t.block; over = false; left = 0 }
+end_of_blocks s t (Block b) = proceeds s t
+end_of_blocks s t Lost = record { acquisition = searching_on s.rate s.mirrored [] s.came; event = Lost; over = None }
 
 pub record EndsBlocks (s : Acquisition) (r : EndStep) : Type 0 where
   pub step : ReadStep
@@ -65,7 +66,7 @@ pub record EndsBlocks (s : Acquisition) (r : EndStep) : Type 0 where
 pub record EndsPending (s : Acquisition) (r : EndStep) : Type 0 where
   pub step : Step
   pub reads : ReadsPending s step
-  pub result : r ≡ record { acquisition = step.acquisition; event = step.event; block = step.block; over = false; left = 0 }
+  pub result : r ≡ record { acquisition = step.acquisition; event = step.event; over = None }
 
 pub record EndsRuns (s : Acquisition) (r : EndStep) : Type 0 where
   pub step : ReadStep
@@ -89,6 +90,6 @@ end_measure s = phase_measure s s.phase
 -- what every step of the end leaves
 pub record EndCounts (s : Acquisition) (r : EndStep) : Type 0 where
   pub came_is : r.acquisition.came ≡ s.came
-  pub rate_known : r.block.rate < 5
-  pub left_few : r.left < 1632
-  pub goes : r.over ≡ false → end_measure r.acquisition < end_measure s
+  pub rate_known : RateKnown r.event
+  pub left_few : IfSome r.over (λ left. left < 1632)
+  pub goes : IsNone r.over → end_measure r.acquisition < end_measure s

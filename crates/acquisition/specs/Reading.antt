@@ -1,7 +1,7 @@
 -- A reading by a hypothesis: what its beginning is, and what it makes of symbols. docs/ACQUISITION.md has the same in words.
 -- Clauses: EN 300 421, 4.4.2 and 4.4.3, note 1 (source document 002).
 -- Assumes nothing.
-use Rattle.std.specs.Prelude.{◌≡◌, Bool, false, List, map, ℕ, ◌+◌, ◌-◌, ◌*◌, ◌/◌, ◌%◌, ◌<◌, eqb, ltb, length, take, drop, replicate}
+use Rattle.std.specs.Prelude.{◌≡◌, Bool, List, map, ℕ, ◌+◌, ◌-◌, ◌*◌, ◌/◌, ◌%◌, ◌<◌, eqb, ltb, length, take, drop, replicate, Option, Some, None, Ok, is_some, option_map}
 use Rattle.common.specs.Choice.{pick}
 use Rattle.puncturing.specs.Step.{pattern_length}
 use Rattle.reader.specs.Read.{symbols_per_pattern}
@@ -51,43 +51,45 @@ pub record Begins (h : Hypothesis) (mirrored : Bool) (first : ℕ) (k : Reading)
 -- ---- bits
 
 abbrev pub used_by : SyncStep → ℕ
-used_by d = d.skipped + pick d.given 1632 0
+used_by d = d.skipped + pick (is_some d.block) 1632 0
 
 -- All bits are taken, by two calls of the aligner. Where there are enough bits, the first call decides, and what it gives is given; the second gives nothing.
 pub record TakesBits (s : BlockSync) (bits : List ℕ) (r : SyncStep) : Type 0 where
   pub first : SyncStep
   pub second : SyncStep
-  pub decides : FeedsSync s bits first
-  pub gathers : FeedsSync first.sync (drop first.taken bits) second
+  pub decides : FeedsSync s bits (Ok first)
+  pub gathers : FeedsSync first.sync (drop first.taken bits) (Ok second)
   pub whole : first.taken + second.taken ≡ length bits
-  pub none_given : second.given ≡ false
+  pub none_given : second.block ≡ None
   pub none_skipped : second.skipped ≡ 0
   pub small : second.sync.held < 8168
   pub counted : used_by first + second.sync.held ≡ s.held + length bits
-  pub result : r ≡ record {
-    answer = first.answer;
-    taken = length bits;
-    skipped = first.skipped;
-    given = first.given;
-    begins = first.begins;
-    block = first.block;
-    sync = second.sync;
-  }
+  pub result : r ≡ record { taken = length bits; skipped = first.skipped; block = first.block; sync = second.sync }
 
--- What a decision means: a block was found, none follows, or there was none.
-abbrev pub event_of : SyncStep → Event
-event_of d = pick d.given Block (pick (ltb 0 d.skipped) Lost Waits)
+-- the block that a decision gave, if it gave one, where so many bits were used before it
+abbrev pub block_found : ℕ → ℕ → ℕ → ℕ → SyncStep → Option FoundBlock
+block_found rate turn first used d =
+    option_map
+    (λ b. record {
+      begins = b.begins;
+      rate = rate;
+      turn = turn_told turn d.sync.lock.inverted;
+      start = symbol_at rate first (used + d.skipped);
+      end = symbol_at rate first (used + d.skipped + 1632);
+      bytes = b.bytes;
+    })
+    d.block
 
--- the block that it gave, where so many bits were used before it
-abbrev pub block_found : ℕ → ℕ → ℕ → ℕ → SyncStep → FoundBlock
-block_found rate turn first used d = record {
-  begins = d.begins;
-  rate = rate;
-  turn = turn_told turn d.sync.lock.inverted;
-  start = symbol_at rate first (used + d.skipped);
-  end = symbol_at rate first (used + d.skipped + 1632);
-  bytes = d.block;
-}
+-- What a decision means, which skipped so many bits: a block was found, none follows, or there was no decision.
+abbrev pub event_of : Option FoundBlock → ℕ → Event
+event_of (Some b) skipped = Block b
+event_of None skipped = pick (ltb 0 skipped) Lost Waits
+
+-- the rate of a block that was found is one of five
+abbrev pub RateKnown : Event → Type 0
+RateKnown Waits = Unit {0}
+RateKnown (Block b) = b.rate < 5
+RateKnown Lost = Unit {0}
 
 -- ---- symbols
 
@@ -105,8 +107,7 @@ pub record SettlesBits (k : Reading) (runs : SymbolRuns) (taken : ℕ) (bits : L
   pub takes : TakesBits k.sync bits decided
   pub reading : r.reading ≡ record { turn = k.turn; runs = runs; sync = decided.sync; first = k.first; used = k.used + used_by decided }
   pub taken_is : r.taken ≡ taken
-  pub event_is : r.event ≡ event_of decided
-  pub block_is : r.block ≡ block_found k.runs.rate k.turn k.first k.used decided
+  pub event_is : r.event ≡ event_of (block_found k.runs.rate k.turn k.first k.used decided) decided.skipped
 
 -- Symbols are turned back and fed to the runs, as many as complete one, or all; the bits that this decides are taken.
 pub record ReadsSymbols (k : Reading) (symbols : List ℕ) (r : ReadStep) : Type 0 where

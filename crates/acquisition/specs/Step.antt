@@ -1,7 +1,7 @@
 -- One step of acquisition: what it makes of the symbols that are pending and of a piece. docs/ACQUISITION.md has the same in words.
 -- Clauses: EN 300 421, 4.4.2 and 4.4.3, note 1 (source document 002).
 -- Assumes nothing.
-use Rattle.std.specs.Prelude.{◌≡◌, Bool, true, false, not, List, [], ◌++◌, ℕ, ◌+◌, ◌-◌, ◌*◌, ◌<◌, ◌≤◌, eqb, ltb, length, take, drop, replicate}
+use Rattle.std.specs.Prelude.{◌≡◌, Bool, true, false, not, List, [], ◌++◌, ℕ, ◌+◌, ◌-◌, ◌*◌, ◌<◌, ◌≤◌, eqb, ltb, length, take, drop}
 use Rattle.common.specs.Choice.{pick}
 use Rattle.common.specs.Lists.{All, padded}
 use Rattle.node_search.specs.Hypotheses.{searched}
@@ -9,7 +9,7 @@ use Rattle.node_search.specs.Search.{Searches as Search·searches}
 use Rattle.node_search.specs.declared.Hypothesis.{Hypothesis}
 use Rattle.node_search.specs.declared.Search.{Search}
 use Rattle.node_search.specs.declared.Search.TheVariants.{Found, Nothing, Several}
-use Rattle.acquisition.specs.Reading.{idle_reading, Begins, ReadsSymbols, ReadingReady}
+use Rattle.acquisition.specs.Reading.{idle_reading, Begins, ReadsSymbols, ReadingReady, RateKnown}
 use Rattle.acquisition.specs.declared.Reading.{Reading}
 use Rattle.acquisition.specs.declared.Phase.{Phase}
 use Rattle.acquisition.specs.declared.Phase.TheVariants.{Searches, Reads}
@@ -38,8 +38,7 @@ fresh_acquisition rate = searching_on rate false [] 0
 
 -- a step that found no block
 abbrev pub waiting : Acquisition → ℕ → Step
-waiting s taken =
-    record { acquisition = s; taken = taken; event = Waits; block = record { begins = false; rate = 0; turn = 0; start = 0; end = 0; bytes = replicate 204 0 } }
+waiting s taken = record { acquisition = s; taken = taken; event = Waits }
 
 -- ---- ranges
 
@@ -117,18 +116,18 @@ lost_reading s k pending came false = reading_on s.rate s.mirrored k pending cam
 
 abbrev pub after_reading : Acquisition → ReadStep → List ℕ → ℕ → Event → Acquisition
 after_reading s t pending came Waits = reading_on s.rate s.mirrored t.reading pending came
-after_reading s t pending came Block = reading_on s.rate s.mirrored t.reading pending came
+after_reading s t pending came (Block b) = reading_on s.rate s.mirrored t.reading pending came
 after_reading s t pending came Lost = lost_reading s t.reading pending came (ends_reading s.reading.sync.lock.locked s.reading.used)
 
 pub record ReadsPending (s : Acquisition) (r : Step) : Type 0 where
   pub read : ReadStep
   pub reads : ReadsSymbols s.reading (pending_of s) read
-  pub result : r ≡ record { acquisition = after_reading s read (drop read.taken (pending_of s)) s.came read.event; taken = 0; event = read.event; block = read.block }
+  pub result : r ≡ record { acquisition = after_reading s read (drop read.taken (pending_of s)) s.came read.event; taken = 0; event = read.event }
 
 pub record ReadsPiece (s : Acquisition) (piece : List ℕ) (r : Step) : Type 0 where
   pub read : ReadStep
   pub reads : ReadsSymbols s.reading (take 1632 piece) read
-  pub result : r ≡ record { acquisition = after_reading s read [] (s.came + read.taken) read.event; taken = read.taken; event = read.event; block = read.block }
+  pub result : r ≡ record { acquisition = after_reading s read [] (s.came + read.taken) read.event; taken = read.taken; event = read.event }
 
 -- ---- a step
 
@@ -141,5 +140,5 @@ pub data StepsAcquisition (s : Acquisition) (piece : List ℕ) (r : Step) : Type
 pub record StepCounts (s : Acquisition) (piece : List ℕ) (r : Step) : Type 0 where
   pub taken_most : r.taken ≤ length piece
   pub came_is : r.acquisition.came ≡ s.came + r.taken
-  pub rate_known : r.block.rate < 5
+  pub rate_known : RateKnown r.event
   pub goes : 0 < length piece → r.taken ≡ 0 → r.acquisition.held < s.held

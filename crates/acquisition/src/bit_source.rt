@@ -13,45 +13,39 @@ pub struct BitSource {
     pub came: u64,
 }
 
-// The source after it, how many bits of the piece were taken, what happened, and the block where one was found. Its numbers count bits, and its turn is 0, or
-// 2 where the bits are inverted.
+// The source after it, how many bits of the piece were taken, and what happened. The numbers of a block count bits, and its turn is 0, or 2 where the bits are
+// inverted.
 #[derive(Clone, Copy)]
 pub struct BitStep {
     pub source: BitSource,
     pub taken: usize,
     pub event: Event,
-    pub block: FoundBlock,
 }
 
-// The same after the last piece: whether that was all, and how many bits then are behind the last block.
+// The same after the last piece: where that was all, how many bits are behind the last block.
 #[derive(Clone, Copy)]
 pub struct BitEnd {
     pub source: BitSource,
     pub event: Event,
-    pub block: FoundBlock,
-    pub over: bool,
-    pub left: usize,
+    pub over: Option<usize>,
 }
 
-// The block that a decision gave, where so many bits were used before it. Where it gave none, its bytes are 0.
-fn bits_found(used: u64, decided: SyncStep) -> FoundBlock
+// The block that a decision gave, if it gave one, where so many bits were used before it.
+fn bits_found(used: u64, decided: SyncStep) -> Option<FoundBlock>
     requires { (used < 4611686018427387904) × (decided.skipped ≤ 8168) }
     ensures { result ≡ bits_found used decided }
 {
-    let begins = decided.begins;
-    let bytes = decided.block;
-    let sync = decided.sync;
-    let lock = sync.lock;
-    let inverted = lock.inverted;
+    let given = decided.block?;
+    let bytes = given.bytes;
     let start = used + decided.skipped as u64;
-    FoundBlock {
-        begins,
+    Some(FoundBlock {
+        begins: given.begins,
         rate: 0,
-        turn: turn_told(0, inverted),
+        turn: turn_told(0, decided.sync.lock.inverted),
         start,
         end: start + 1632,
         bytes,
-    }
+    })
 }
 
 impl BitSource {
@@ -60,24 +54,20 @@ impl BitSource {
         requires { (BitsReady self) × (self.came + length piece.now < 1152921504606846976) }
         ensures { (StepsBits self piece.now result) × (BitsReady result.source) × (BitCounts self piece.now result) }
     {
-        let sync = self.sync;
-        let used = self.used;
-        let came = self.came;
-        let decided = sync.feed(piece);
-        let taken = decided.taken;
-        let event = event_of(decided);
-        let block = bits_found(used, decided);
+        let Ok(decided) = self.sync.feed(piece) else {
+            unreachable!()
+        };
+        let found = bits_found(self.used, decided);
+        let event = event_of(found, decided.skipped);
         let more = used_by(decided);
-        let next = decided.sync;
         BitStep {
             source: BitSource {
-                sync: next,
-                used: used + more,
-                came: came + taken as u64,
+                sync: decided.sync,
+                used: self.used + more,
+                came: self.came + decided.taken as u64,
             },
-            taken,
+            taken: decided.taken,
             event,
-            block,
         }
     }
 
@@ -87,35 +77,28 @@ impl BitSource {
         requires { BitsReady self }
         ensures { (EndsBits self result) × (BitsReady result.source) × (BitEndCounts self result) }
     {
-        let sync = self.sync;
-        let used = self.used;
-        let came = self.came;
-        let held = sync.held;
-        let decided = sync.finish();
-        let given = decided.given;
-        let event = last_event(given, held);
-        let block = bits_found(used, decided);
+        let held = self.sync.held;
+        let Ok(decided) = self.sync.finish() else {
+            unreachable!()
+        };
+        let found = bits_found(self.used, decided);
+        let event = last_event(found, held);
         match event {
             Event::Waits => BitEnd {
                 source: self,
                 event,
-                block,
-                over: true,
-                left: held,
+                over: Some(held),
             },
-            Event::Block => {
+            Event::Block(_) => {
                 let more = used_by(decided);
-                let next = decided.sync;
                 BitEnd {
                     source: BitSource {
-                        sync: next,
-                        used: used + more,
-                        came,
+                        sync: decided.sync,
+                        used: self.used + more,
+                        came: self.came,
                     },
                     event,
-                    block,
-                    over: false,
-                    left: 0,
+                    over: None,
                 }
             }
             Event::Lost => {
@@ -123,13 +106,11 @@ impl BitSource {
                 BitEnd {
                     source: BitSource {
                         sync: fresh,
-                        used: used + held as u64,
-                        came,
+                        used: self.used + held as u64,
+                        came: self.came,
                     },
                     event,
-                    block,
-                    over: false,
-                    left: 0,
+                    over: None,
                 }
             }
         }

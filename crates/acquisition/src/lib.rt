@@ -3,15 +3,15 @@
 // Inner: its functions may require what the crates above have tested. docs/ARCHITECTURE.md names the public surface.
 #![tactic(auto)]
 
-ghost use Rattle.std.specs.Prelude.{◌≡◌, [], ◌++◌, ◌+◌, ◌<◌, ◌≤◌, length};
-ghost use Rattle.common.specs.Lists.{All, padded};
+ghost use Rattle.std.specs.Prelude.{◌≡◌, [], ◌+◌, ◌<◌, ◌≤◌, length};
+ghost use Rattle.common.specs.Lists.{All};
 ghost use Rattle.node_search.specs.Search.{FoundKnown};
 ghost use Rattle.acquisition.specs.Reading.{symbol_at, turn_read, turn_told, idle_reading, Begins, TakesBits, event_of, block_found, used_by, ReadingReady, SettlesBits, ReadsSymbols};
 ghost use Rattle.acquisition.specs.End.{ClosesReading, last_event, ClosesBlocks, over_with, proceeds, EndsBlocks, EndsAcquisition, EndCounts};
 ghost use Rattle.acquisition.specs.Step.{StepCounts, searching_on, reading_on, waiting, SearchReady, ReadReady, AfterSearch, ends_reading, mirrored_next, lost_reading, after_reading, SearchesOn, ReadsPending, ReadsPiece, AcquisitionReady, fresh_acquisition, StepsAcquisition};
 
 use block_sync::{BlockSync, SyncStep};
-use common::{least, put};
+use common::joined;
 use free_start::{lead_bits, lead_symbols};
 use node_search::{Hypothesis, Search};
 use puncturing::pattern_length;
@@ -66,28 +66,26 @@ pub struct FoundBlock {
 #[derive(Clone, Copy)]
 pub enum Event {
     Waits,
-    Block,
+    // A block was found.
+    Block(FoundBlock),
     // No block follows, and a lock is lost.
     Lost,
 }
 
-// The value after it, how many symbols of the piece were taken, what happened, and the block where one was found.
+// The value after it, how many symbols of the piece were taken, and what happened.
 #[derive(Clone, Copy)]
 pub struct Step {
     pub acquisition: Acquisition,
     pub taken: usize,
     pub event: Event,
-    pub block: FoundBlock,
 }
 
-// The same after the last piece: whether that was all, and how many bits then are behind the last block.
+// The same after the last piece: where that was all, how many bits are behind the last block.
 #[derive(Clone, Copy)]
 pub struct EndStep {
     pub acquisition: Acquisition,
     pub event: Event,
-    pub block: FoundBlock,
-    pub over: bool,
-    pub left: usize,
+    pub over: Option<usize>,
 }
 
 // The reading after some symbols, how many of them were taken, and what happened.
@@ -96,7 +94,6 @@ pub struct ReadStep {
     pub reading: Reading,
     pub taken: usize,
     pub event: Event,
-    pub block: FoundBlock,
 }
 
 // How many symbols came before the pattern that has a bit of a reading. The bits of the lead count as the first one behind it.
@@ -117,15 +114,10 @@ fn turn_read(hypothesis: Hypothesis, mirrored: bool) -> u8
     requires { hypothesis.turn < 8 }
     ensures { (result ≡ turn_read hypothesis mirrored) × (result < 8) }
 {
-    let rate = hypothesis.rate;
-    let turn = hypothesis.turn;
-    if rate == 3 {
-        if mirrored {
-            return (turn + 4) % 8;
-        }
-        return turn;
+    if hypothesis.rate == 3 && mirrored {
+        return (hypothesis.turn + 4) % 8;
     }
-    turn
+    hypothesis.turn
 }
 
 // The turn of symbols whose bits are inverted or not: two quarters further where they are.
@@ -186,59 +178,48 @@ fn take_bits(sync: BlockSync, bits: &[u8]) -> SyncStep
     requires { (sync.held < 8168) × (length bits.now ≤ 1632) }
     ensures { TakesBits sync bits.now result }
 {
-    let first = sync.feed(bits);
-    let answer = first.answer;
+    let Ok(first) = sync.feed(bits) else {
+        unreachable!()
+    };
     let taken = first.taken;
-    let between = first.sync;
-    let block = first.block;
-    let second = between.feed(&bits[taken..]);
-    let next = second.sync;
+    let Ok(second) = first.sync.feed(&bits[taken..]) else {
+        unreachable!()
+    };
     SyncStep {
-        answer,
         taken: bits.len(),
         skipped: first.skipped,
-        given: first.given,
-        begins: first.begins,
-        block,
-        sync: next,
+        block: first.block,
+        sync: second.sync,
     }
 }
 
-// What a decision on bits means: a block was found, none follows, or there was no decision.
-fn event_of(decided: SyncStep) -> Event
-    ensures { result ≡ event_of decided }
+// What a decision on bits means, which skipped so many: a block was found, none follows, or there was no decision.
+fn event_of(found: Option<FoundBlock>, skipped: usize) -> Event
+    ensures { result ≡ event_of found skipped }
 {
-    let skipped = decided.skipped;
-    let given = decided.given;
-    if given {
-        return Event::Block;
+    match found {
+        Some(block) => Event::Block(block),
+        None if 0 < skipped => Event::Lost,
+        None => Event::Waits,
     }
-    let some = 0 < skipped;
-    if some {
-        return Event::Lost;
-    }
-    Event::Waits
 }
 
-// The block that a decision gave, where so many bits were used before it. Where it gave none, its bytes are 0.
-fn block_found(rate: u8, turn: u8, first: u64, used: u64, decided: SyncStep) -> FoundBlock
+// The block that a decision gave, if it gave one, where so many bits were used before it.
+fn block_found(rate: u8, turn: u8, first: u64, used: u64, decided: SyncStep) -> Option<FoundBlock>
     requires { (rate < 5) × (turn < 8) × (first + used < 4611686018427387904) × (decided.skipped ≤ 8168) }
     ensures { result ≡ block_found rate turn first used decided }
 {
-    let begins = decided.begins;
-    let bytes = decided.block;
-    let sync = decided.sync;
-    let lock = sync.lock;
-    let inverted = lock.inverted;
+    let given = decided.block?;
+    let bytes = given.bytes;
     let at = used + decided.skipped as u64;
-    FoundBlock {
-        begins,
+    Some(FoundBlock {
+        begins: given.begins,
         rate,
-        turn: turn_told(turn, inverted),
+        turn: turn_told(turn, decided.sync.lock.inverted),
         start: symbol_at(rate, first, at),
         end: symbol_at(rate, first, at + 1632),
         bytes,
-    }
+    })
 }
 
 // How many bits a decision used up.
@@ -246,12 +227,11 @@ fn used_by(decided: SyncStep) -> u64
     requires { decided.skipped ≤ 8168 }
     ensures { result ≡ used_by decided }
 {
-    let given = decided.given;
     let skipped = decided.skipped as u64;
-    if given {
-        return skipped + 1632;
+    match decided.block {
+        Some(_) => skipped + 1632,
+        None => skipped,
     }
-    skipped
 }
 
 // Puts the bits that some symbols gave to the blocks in progress.
@@ -259,28 +239,26 @@ fn settle(reading: Reading, runs: SymbolRuns, taken: usize, bits: &[u8]) -> Read
     requires { (ReadingReady reading) × (length bits.now ≤ 1632) }
     ensures { SettlesBits reading runs taken bits.now result }
 {
-    let turn = reading.turn;
-    let before = reading.runs;
-    let rate = before.rate;
-    let sync = reading.sync;
-    let first = reading.first;
-    let used = reading.used;
-    let decided = take_bits(sync, bits);
-    let event = event_of(decided);
-    let block = block_found(rate, turn, first, used, decided);
+    let decided = take_bits(reading.sync, bits);
+    let found = block_found(
+        reading.runs.rate,
+        reading.turn,
+        reading.first,
+        reading.used,
+        decided,
+    );
+    let event = event_of(found, decided.skipped);
     let more = used_by(decided);
-    let next = decided.sync;
     ReadStep {
         reading: Reading {
-            turn,
+            turn: reading.turn,
             runs,
-            sync: next,
-            first,
-            used: used + more,
+            sync: decided.sync,
+            first: reading.first,
+            used: reading.used + more,
         },
         taken,
         event,
-        block,
     }
 }
 
@@ -301,25 +279,11 @@ fn read(reading: Reading, symbols: &[u8]) -> ReadStep
     settle(reading, next, fed.taken, &bits[..count])
 }
 
-// Symbols and those behind them, at the front of an array.
-fn joined(front: &[u8], behind: &[u8]) -> [u8; 1632]
-    requires { length front.now + length behind.now ≤ 1632 }
-    ensures { result ≡ padded 1632 (front.now ++ behind.now) }
-{
-    let mut buffer = [0u8; 1632];
-    put(front, 0, &mut buffer);
-    put(behind, front.len(), &mut buffer);
-    buffer
-}
-
 // Whether a decision that gives no block ends the reading: the one before it gave none either.
 fn ends_reading(locked: bool, used: u64) -> bool
     ensures { result ≡ ends_reading locked used }
 {
-    if locked {
-        return false;
-    }
-    0 < used
+    !locked && 0 < used
 }
 
 // Whether the next reading at 5/6 takes the symbols for mirrored, where one is over of which so many bits were used up before: where these are those of one
@@ -338,7 +302,7 @@ fn searching_on(rate: u8, mirrored: bool, pending: &[u8], came: u64) -> Acquisit
     requires { length pending.now ≤ 1632 }
     ensures { result ≡ searching_on rate mirrored pending.now came }
 {
-    let kept = joined(pending, &pending[..0]);
+    let kept = joined::<1632>(pending, &pending[..0]);
     let reading = idle();
     Acquisition {
         rate,
@@ -356,7 +320,7 @@ fn reading_on(rate: u8, mirrored: bool, reading: Reading, pending: &[u8], came: 
     requires { length pending.now ≤ 1632 }
     ensures { result ≡ reading_on rate mirrored reading pending.now came }
 {
-    let kept = joined(pending, &pending[..0]);
+    let kept = joined::<1632>(pending, &pending[..0]);
     Acquisition {
         rate,
         mirrored,
@@ -388,19 +352,10 @@ fn searched(rate: u8, mirrored: bool, came: u64, window: &[u8], search: Search) 
 fn waits(acquisition: Acquisition, taken: usize) -> Step
     ensures { result ≡ waiting acquisition taken }
 {
-    let bytes = [0u8; 204];
     Step {
         acquisition,
         taken,
         event: Event::Waits,
-        block: FoundBlock {
-            begins: false,
-            rate: 0,
-            turn: 0,
-            start: 0,
-            end: 0,
-            bytes,
-        },
     }
 }
 
@@ -416,7 +371,7 @@ fn search_step(state: Acquisition, piece: &[u8]) -> Step
     let pending = state.pending;
     let space = 1632 - held;
     if piece.len() < space {
-        let gathered = joined(&pending[..held], piece);
+        let gathered = joined::<1632>(&pending[..held], piece);
         let total = held + piece.len();
         let more = searching_on(
             rate,
@@ -426,9 +381,9 @@ fn search_step(state: Acquisition, piece: &[u8]) -> Step
         );
         return waits(more, piece.len());
     }
-    let window = joined(&pending[..held], &piece[..space]);
-    let result = node_search::search_window(rate, &window);
-    let search = result.search;
+    let window = joined::<1632>(&pending[..held], &piece[..space]);
+    // The window is one that can be searched, so that no search is refused.
+    let search = node_search::search_window(rate, &window).unwrap_or(Search::Nothing);
     let next = searched(rate, mirrored, came + space as u64, &window, search);
     waits(next, space)
 }
@@ -438,17 +393,16 @@ fn lost_reading(state: Acquisition, next: Reading, pending: &[u8], came: u64) ->
     requires { length pending.now ≤ 1632 }
     ensures { result ≡ lost_reading state next pending.now came (ends_reading state.reading.sync.lock.locked state.reading.used) }
 {
-    let rate = state.rate;
-    let mirrored = state.mirrored;
-    let before = state.reading;
-    let sync = before.sync;
-    let lock = sync.lock;
-    let locked = lock.locked;
-    let used = before.used;
-    if ends_reading(locked, used) {
-        return searching_on(rate, mirrored_next(mirrored, used), pending, came);
+    let used = state.reading.used;
+    if ends_reading(state.reading.sync.lock.locked, used) {
+        return searching_on(
+            state.rate,
+            mirrored_next(state.mirrored, used),
+            pending,
+            came,
+        );
     }
-    reading_on(rate, mirrored, next, pending, came)
+    reading_on(state.rate, state.mirrored, next, pending, came)
 }
 
 // What a step of a reading leaves, where the symbols behind those that it read are pending.
@@ -456,13 +410,10 @@ fn after_reading(state: Acquisition, step: ReadStep, pending: &[u8], came: u64) 
     requires { length pending.now ≤ 1632 }
     ensures { result ≡ after_reading state step pending.now came step.event }
 {
-    let rate = state.rate;
-    let mirrored = state.mirrored;
     let next = step.reading;
-    let event = step.event;
-    match event {
-        Event::Waits => reading_on(rate, mirrored, next, pending, came),
-        Event::Block => reading_on(rate, mirrored, next, pending, came),
+    match step.event {
+        Event::Waits => reading_on(state.rate, state.mirrored, next, pending, came),
+        Event::Block(_) => reading_on(state.rate, state.mirrored, next, pending, came),
         Event::Lost => lost_reading(state, next, pending, came),
     }
 }
@@ -472,20 +423,15 @@ fn pending_step(state: Acquisition) -> Step
     requires { (ReadReady state) × (state.came < 1152921504606846976) × (0 < state.held) }
     ensures { (ReadsPending state result) × (AcquisitionReady result.acquisition) }
 {
-    let reading = state.reading;
     let pending = state.pending;
     let held = state.held;
-    let came = state.came;
-    let step = read(reading, &pending[..held]);
+    let step = read(state.reading, &pending[..held]);
     let from = step.taken;
-    let event = step.event;
-    let block = step.block;
-    let acquisition = after_reading(state, step, &pending[from..held], came);
+    let acquisition = after_reading(state, step, &pending[from..held], state.came);
     Step {
         acquisition,
         taken: 0,
-        event,
-        block,
+        event: step.event,
     }
 }
 
@@ -494,19 +440,14 @@ fn piece_step(state: Acquisition, piece: &[u8]) -> Step
     requires { (ReadReady state) × (All (λ p. p < 81) piece.now) × (state.came + length piece.now < 1152921504606846976) × (state.held ≡ 0) }
     ensures { (ReadsPiece state piece.now result) × (AcquisitionReady result.acquisition) × (result.taken ≤ length piece.now) }
 {
-    let reading = state.reading;
-    let came = state.came;
-    let count = least(1632, piece.len() as u64) as usize;
-    let step = read(reading, &piece[..count]);
+    let count = piece.len().min(1632);
+    let step = read(state.reading, &piece[..count]);
     let taken = step.taken;
-    let event = step.event;
-    let block = step.block;
-    let acquisition = after_reading(state, step, &piece[..0], came + taken as u64);
+    let acquisition = after_reading(state, step, &piece[..0], state.came + taken as u64);
     Step {
         acquisition,
         taken,
-        event,
-        block,
+        event: step.event,
     }
 }
 
@@ -525,16 +466,14 @@ fn close_runs(reading: Reading) -> ReadStep
 }
 
 // What the last decisions of a reading mean: where no block follows and fewer bits are left than one has, the end has come.
-fn last_event(given: bool, held: usize) -> Event
-    ensures { result ≡ last_event given held }
+fn last_event(found: Option<FoundBlock>, held: usize) -> Event
+    ensures { result ≡ last_event found held }
 {
-    if given {
-        return Event::Block;
+    match found {
+        Some(block) => Event::Block(block),
+        None if held < 1632 => Event::Waits,
+        None => Event::Lost,
     }
-    if held < 1632 {
-        return Event::Waits;
-    }
-    Event::Lost
 }
 
 // The end of the bits of a reading: the next block of those that are left, if there is one.
@@ -542,46 +481,40 @@ fn close_blocks(reading: Reading) -> ReadStep
     requires { ReadingReady reading }
     ensures { ClosesBlocks reading result }
 {
-    let turn = reading.turn;
     let runs = reading.runs;
-    let rate = runs.rate;
-    let sync = reading.sync;
-    let held = sync.held;
-    let first = reading.first;
-    let used = reading.used;
-    let decided = sync.finish();
-    let given = decided.given;
-    let event = last_event(given, held);
-    let block = block_found(rate, turn, first, used, decided);
+    let Ok(decided) = reading.sync.finish() else {
+        unreachable!()
+    };
+    let found = block_found(
+        runs.rate,
+        reading.turn,
+        reading.first,
+        reading.used,
+        decided,
+    );
+    let event = last_event(found, reading.sync.held);
     let more = used_by(decided);
-    let next = decided.sync;
     ReadStep {
         reading: Reading {
-            turn,
+            turn: reading.turn,
             runs,
-            sync: next,
-            first,
-            used: used + more,
+            sync: decided.sync,
+            first: reading.first,
+            used: reading.used + more,
         },
         taken: 0,
         event,
-        block,
     }
 }
 
 // The last step: nothing is left to do.
-fn over(state: Acquisition, left: usize) -> EndStep
-    ensures { result ≡ over_with state left }
+fn over(acquisition: Acquisition, left: usize) -> EndStep
+    ensures { result ≡ over_with acquisition left }
 {
-    let step = waits(state, 0);
-    let acquisition = step.acquisition;
-    let block = step.block;
     EndStep {
         acquisition,
         event: Event::Waits,
-        block,
-        over: true,
-        left,
+        over: Some(left),
     }
 }
 
@@ -589,17 +522,11 @@ fn over(state: Acquisition, left: usize) -> EndStep
 fn goes_on(state: Acquisition, step: ReadStep) -> EndStep
     ensures { result ≡ proceeds state step }
 {
-    let came = state.came;
-    let event = step.event;
-    let block = step.block;
-    let none = [0u8; 1];
-    let acquisition = after_reading(state, step, &none[..0], came);
+    let acquisition = after_reading(state, step, &[], state.came);
     EndStep {
         acquisition,
-        event,
-        block,
-        over: false,
-        left: 0,
+        event: step.event,
+        over: None,
     }
 }
 
@@ -607,11 +534,7 @@ fn goes_on(state: Acquisition, step: ReadStep) -> EndStep
 fn ended(state: Acquisition) -> Acquisition
     ensures { result ≡ searching_on state.rate state.mirrored [] state.came }
 {
-    let rate = state.rate;
-    let mirrored = state.mirrored;
-    let came = state.came;
-    let none = [0u8; 1];
-    searching_on(rate, mirrored, &none[..0], came)
+    searching_on(state.rate, state.mirrored, &[], state.came)
 }
 
 // The end of a reading of which nothing is pending and no run holds a symbol.
@@ -619,26 +542,19 @@ fn end_blocks(state: Acquisition) -> EndStep
     requires { (ReadReady state) × (state.came < 1152921504606846976) }
     ensures { EndsBlocks state result }
 {
-    let reading = state.reading;
-    let sync = reading.sync;
-    let held = sync.held;
-    let step = close_blocks(reading);
-    let event = step.event;
-    match event {
+    let step = close_blocks(state.reading);
+    match step.event {
         Event::Waits => {
             let over_then = ended(state);
-            over(over_then, held)
+            over(over_then, state.reading.sync.held)
         }
-        Event::Block => goes_on(state, step),
+        Event::Block(_) => goes_on(state, step),
         Event::Lost => {
             let acquisition = ended(state);
-            let block = step.block;
             EndStep {
                 acquisition,
-                event,
-                block,
-                over: false,
-                left: 0,
+                event: Event::Lost,
+                over: None,
             }
         }
     }
@@ -650,8 +566,7 @@ impl Acquisition {
         requires { rate < 6 }
         ensures { (result ≡ fresh_acquisition rate) × (AcquisitionReady result) }
     {
-        let pending = [0u8; 1632];
-        searching_on(rate, false, &pending[..0], 0)
+        searching_on(rate, false, &[], 0)
     }
 
     // Takes symbols of a piece: those that fill the window, or those that complete a run, or all. While symbols are pending that a reading has not read, it
@@ -660,9 +575,8 @@ impl Acquisition {
         requires { (AcquisitionReady self) × (All (λ p. p < 81) piece.now) × (self.came + length piece.now < 1152921504606846976) }
         ensures { (StepsAcquisition self piece.now result) × (AcquisitionReady result.acquisition) × (StepCounts self piece.now result) }
     {
-        let phase = self.phase;
         let held = self.held;
-        match phase {
+        match self.phase {
             Phase::Searches => search_step(self, piece),
             Phase::Reads => {
                 if held > 0 {
@@ -678,29 +592,21 @@ impl Acquisition {
         requires { AcquisitionReady self }
         ensures { (EndsAcquisition self result) × (AcquisitionReady result.acquisition) × (EndCounts self result) }
     {
-        let phase = self.phase;
         let held = self.held;
-        let reading = self.reading;
-        let runs = reading.runs;
-        let count = runs.count;
-        match phase {
+        let count = self.reading.runs.count;
+        match self.phase {
             Phase::Searches => over(self, 0),
             Phase::Reads => {
                 if held > 0 {
                     let step = pending_step(self);
-                    let acquisition = step.acquisition;
-                    let event = step.event;
-                    let block = step.block;
                     return EndStep {
-                        acquisition,
-                        event,
-                        block,
-                        over: false,
-                        left: 0,
+                        acquisition: step.acquisition,
+                        event: step.event,
+                        over: None,
                     };
                 }
                 if count > 0 {
-                    let step = close_runs(reading);
+                    let step = close_runs(self.reading);
                     return goes_on(self, step);
                 }
                 end_blocks(self)

@@ -1,6 +1,7 @@
 -- What a step of an acquisition leaves, by the symbols that come and at the end: bits, and zeros where nothing is held, but for its runs; and a step that leaves an
 -- acquisition leaves the same one with its runs cleared too.
 -- Assumes nothing.
+use Rattle.std.specs.Prelude.{None, Ok}
 use mathlib.Core.Path.{◌≡◌, refl, sym, ap, subst, ◌∙◌}
 use mathlib.Core.Bool.{Bool, true, false}
 use mathlib.Core.List.{List, [], ◌∷◌, ◌++◌}
@@ -66,8 +67,7 @@ fresh_clear : SyncClear fresh_block_sync
 unfolding fresh_block_sync
 fresh_clear = record { zeros = largest_zeros 8168; small = tt }
 
-feeds_clear : {s : BlockSync} {piece : List ℕ} {r : SyncStep} → SyncClear s → All (λ b. b < 2) piece → FeedsSync s piece r → SyncClear r.sync
-feeds_clear c p (sync.FeedsSync.refused h e) = subst (λ (x : SyncStep). SyncClear x.sync) (sym e) c
+feeds_clear : {s : BlockSync} {piece : List ℕ} {r : SyncStep} → SyncClear s → All (λ b. b < 2) piece → FeedsSync s piece (Ok r) → SyncClear r.sync
 feeds_clear {s} {piece} c p (sync.FeedsSync.gathered h e) =
     subst (λ (x : SyncStep). SyncClear x.sync) (sym e) (holding_clear s.lock (held_bits s ++ piece) (All-append (λ b. b < 2) (held_bits s) piece c.small p))
 feeds_clear {s} {piece} c p (sync.FeedsSync.turned h k t) =
@@ -88,8 +88,7 @@ reads_clear g c t = settles_clear c (bits_all (fed_bits g t.feeds)) t.settles
 closes_clear : {k : Reading} {r : ReadStep} → SyncClear k.sync → ClosesReading k r → SyncClear r.reading.sync
 closes_clear c t = settles_clear c (bits_all (closed_bits_lem t.closes)) t.settles
 
-finishes_clear : {s : BlockSync} {r : SyncStep} → SyncClear s → FinishesSync s r → SyncClear r.sync
-finishes_clear c (sync.FinishesSync.refused h e) = subst (λ (x : SyncStep). SyncClear x.sync) (sym e) c
+finishes_clear : {s : BlockSync} {r : SyncStep} → SyncClear s → FinishesSync s (Ok r) → SyncClear r.sync
 finishes_clear {s} c (sync.FinishesSync.turned h t) =
     let l = held_bits s in
     subst (λ (x : SyncStep). SyncClear x.sync) (sym t.result) (holding_clear t.decision.lock (drop (used_bits t.decision) l) (all_drop (used_bits t.decision) l c.small))
@@ -116,7 +115,7 @@ lost_left s k pending came false c = reading_left s.rate s.mirrored k pending ca
 
 after_left : (s : Acquisition) (t : ReadStep) (pending : List ℕ) (came : ℕ) (e : Event) → SyncClear t.reading.sync → Left (after_reading s t pending came e)
 after_left s t pending came Waits c = reading_left s.rate s.mirrored t.reading pending came c
-after_left s t pending came Block c = reading_left s.rate s.mirrored t.reading pending came c
+after_left s t pending came (Block b) c = reading_left s.rate s.mirrored t.reading pending came c
 after_left s t pending came Lost c = lost_left s t.reading pending came (ends_reading s.reading.sync.lock.locked s.reading.used) c
 
 -- while it reads, its runs are ready and its bits are
@@ -144,7 +143,7 @@ module _ (s : Acquisition) (g : AcquisitionReady s) (c : Clear s) where
 
   end_left : (t : ReadStep) (e : Event) → SyncClear t.reading.sync → Left (end_of_blocks s t e).acquisition
   end_left t Waits k = searching_left s.rate s.mirrored [] s.came
-  end_left t Block k = goes_left t k
+  end_left t (Block b) k = goes_left t k
   end_left t Lost k = searching_left s.rate s.mirrored [] s.came
 
   pub ends_left : {r : EndStep} → EndsAcquisition s r → Left r.acquisition
@@ -157,7 +156,7 @@ module _ (s : Acquisition) (g : AcquisitionReady s) (c : Clear s) where
 -- ---- the same with cleared runs
 
 abbrev cleared_step : ReadStep → ReadStep
-cleared_step t = record { reading = cleared_reading t.reading; taken = t.taken; event = t.event; block = t.block }
+cleared_step t = record { reading = cleared_reading t.reading; taken = t.taken; event = t.event }
 
 symbols_cleared : {s next : SymbolRuns} {piece output exit : List ℕ} {taken count : ℕ} → RunsReady next → FeedsSymbols s piece output next taken count exit
     → FeedsSymbols s piece output (cleared_runs next) taken count exit
@@ -165,7 +164,7 @@ symbols_cleared {next = next} g (gathered l et ec ex h) = gathered l et ec ex (c
 symbols_cleared {next = next} g (read pairs es le size ec after f h) = read pairs es le size ec after f (cleared_holds next g h)
 
 settles_cleared : {k : Reading} {runs : SymbolRuns} {taken : ℕ} {bits : List ℕ} {r : ReadStep} → SettlesBits k runs taken bits r → SettlesBits k (cleared_runs runs) taken bits (cleared_step r)
-settles_cleared t = record { decided = t.decided; takes = t.takes; reading = ap cleared_reading t.reading; taken_is = t.taken_is; event_is = t.event_is; block_is = t.block_is }
+settles_cleared t = record { decided = t.decided; takes = t.takes; reading = ap cleared_reading t.reading; taken_is = t.taken_is; event_is = t.event_is }
 
 reads_cleared : {k : Reading} {symbols : List ℕ} {r : ReadStep} → ReadsSymbols k symbols r → ReadsSymbols k symbols (cleared_step r)
 reads_cleared t = record {
@@ -202,7 +201,6 @@ blocks_cleared {k} e t = record {
       ∙ ap (λ (x : Reading). record { turn = k.turn; runs = x.runs; sync = t.decided.sync; first = k.first; used = k.used + used_by t.decided }) e;
   taken_is = t.taken_is;
   event_is = t.event_is;
-  block_is = t.block_is;
 }
 
 pub searching_cleared : (rate : ℕ) (mirrored : Bool) (l : List ℕ) (came : ℕ) → cleared (searching_on rate mirrored l came) ≡ searching_on rate mirrored l came
@@ -215,7 +213,7 @@ lost_cleared s k pending came false = refl
 
 after_cleared : (s : Acquisition) (t : ReadStep) (pending : List ℕ) (came : ℕ) (e : Event) → cleared (after_reading s t pending came e) ≡ after_reading s (cleared_step t) pending came e
 after_cleared s t pending came Waits = refl
-after_cleared s t pending came Block = refl
+after_cleared s t pending came (Block b) = refl
 after_cleared s t pending came Lost = lost_cleared s t.reading pending came (ends_reading s.reading.sync.lock.locked s.reading.used)
 
 begins_cleared : {h : _} {mirrored : Bool} {first : ℕ} {k : Reading} → Begins h mirrored first k → Begins h mirrored first (cleared_reading k)
@@ -235,7 +233,7 @@ search_cleared {rate} {mirrored} {came} {window} nothing = subst (AfterSearch ra
 search_cleared {rate} {mirrored} {came} {window} several = subst (AfterSearch rate mirrored came window _) (sym (searching_cleared rate mirrored [] came)) several
 
 abbrev pub cleared_result : Step → Step
-cleared_result r = record { acquisition = cleared r.acquisition; taken = r.taken; event = r.event; block = r.block }
+cleared_result r = record { acquisition = cleared r.acquisition; taken = r.taken; event = r.event }
 
 pending_cleared : (s : Acquisition) {r : Step} → ReadsPending s r → ReadsPending s (cleared_result r)
 pending_cleared s p = record {
@@ -243,7 +241,7 @@ pending_cleared s p = record {
   reads = reads_cleared p.reads;
   result =
       ap cleared_result p.result
-      ∙ ap (λ (x : Acquisition). record { acquisition = x; taken = 0; event = p.read.event; block = p.read.block }) (after_cleared s p.read (drop p.read.taken (pending_of s)) s.came p.read.event);
+      ∙ ap (λ (x : Acquisition). record { acquisition = x; taken = 0; event = p.read.event }) (after_cleared s p.read (drop p.read.taken (pending_of s)) s.came p.read.event);
 }
 
 pub steps_cleared : (s : Acquisition) {piece : List ℕ} {r : Step} → StepsAcquisition s piece r → StepsAcquisition s piece (cleared_result r)
@@ -259,21 +257,21 @@ steps_cleared s (reads e h p) =
       reads = reads_cleared p.reads;
       result =
           ap cleared_result p.result
-          ∙ ap (λ (x : Acquisition). record { acquisition = x; taken = p.read.taken; event = p.read.event; block = p.read.block }) (after_cleared s p.read [] _ p.read.event);
+          ∙ ap (λ (x : Acquisition). record { acquisition = x; taken = p.read.taken; event = p.read.event }) (after_cleared s p.read [] _ p.read.event);
     })
 
 abbrev pub cleared_end : EndStep → EndStep
-cleared_end r = record { acquisition = cleared r.acquisition; event = r.event; block = r.block; over = r.over; left = r.left }
+cleared_end r = record { acquisition = cleared r.acquisition; event = r.event; over = r.over }
 
 goes_cleared : (s : Acquisition) (t : ReadStep) → cleared_end (proceeds s t) ≡ proceeds s (cleared_step t)
-goes_cleared s t = ap (λ (x : Acquisition). record { acquisition = x; event = t.event; block = t.block; over = false; left = 0 }) (after_cleared s t [] s.came t.event)
+goes_cleared s t = ap (λ (x : Acquisition). record { acquisition = x; event = t.event; over = None }) (after_cleared s t [] s.came t.event)
 
 end_cleared : (s : Acquisition) (t : ReadStep) (e : Event) → cleared_end (end_of_blocks s t e) ≡ end_of_blocks s (cleared_step t) e
 end_cleared s t Waits =
     ap (λ (x : Acquisition). over_with x s.reading.sync.held) (searching_cleared s.rate s.mirrored [] s.came)
-end_cleared s t Block = goes_cleared s t
+end_cleared s t (Block b) = goes_cleared s t
 end_cleared s t Lost =
-    ap (λ (x : Acquisition). record { acquisition = x; event = Lost; block = t.block; over = false; left = 0 }) (searching_cleared s.rate s.mirrored [] s.came)
+    ap (λ (x : Acquisition). record { acquisition = x; event = Lost; over = None }) (searching_cleared s.rate s.mirrored [] s.came)
 
 pub ends_cleared : (s : Acquisition) → cleared_reading s.reading ≡ s.reading → cleared s ≡ s → {r : EndStep} → EndsAcquisition s r → EndsAcquisition s (cleared_end r)
 ends_cleared s k c (no_reading e q) = no_reading e (ap cleared_end q ∙ ap (λ (x : Acquisition). over_with x 0) c)

@@ -3,14 +3,14 @@
 // Inner: its functions may require what the crates above have tested. docs/ARCHITECTURE.md names the public surface.
 #![tactic(auto)]
 
-ghost use Rattle.std.specs.Prelude.{◌≡◌, ◌++◌, ◌≤◌, ◌<◌, length, take, drop};
+ghost use Rattle.std.specs.Prelude.{◌≡◌, ◌++◌, ◌≤◌, ◌<◌, length};
 ghost use Rattle.reception_counts.specs.Bytes.{to_bytes};
 ghost use Rattle.acquisition_state.specs.State.{phase_of, is_reading, flags_byte, plain_of, low_of, high_of, runs_idle, sync_idle, bits_in_range, pending_in_range, counts_in_range, reading_in_range, phase_in_range, in_range, cleared, field_bytes, Writable};
 ghost use Rattle.acquisition_state.specs.Reading.{state_of};
 
 use acquisition::{Acquisition, Phase, Reading};
 use block_sync::{BlockSync, Lock};
-use common::{largest_of, put};
+use common::{array_at, largest_of, put};
 use reader_state::{are_in_range, cleared_pairs, number_at, pairs_at};
 use reader_stream::symbol_runs::SymbolRuns;
 use reception_counts::count_bytes;
@@ -73,29 +73,13 @@ pub fn high_of(byte: u8) -> bool
 fn phase_of(reads: bool) -> Phase
     ensures { result ≡ phase_of reads }
 {
-    if reads {
-        return Phase::Reads;
-    }
-    Phase::Searches
+    if reads { Phase::Reads } else { Phase::Searches }
 }
 
 fn is_reading(phase: Phase) -> bool
     ensures { result ≡ is_reading phase }
 {
-    match phase {
-        Phase::Searches => false,
-        Phase::Reads => true,
-    }
-}
-
-// A byte for each bit.
-fn bits_at(bytes: &[u8]) -> [u8; 8168]
-    requires { 13754 ≤ length bytes.now }
-    ensures { result ≡ take 8168 (drop 5586 bytes.now) }
-{
-    let mut bits = [0u8; 8168];
-    put(&bytes[BITS..HELD], 0, &mut bits);
-    bits
+    matches!(phase, Phase::Reads)
 }
 
 // The reading that bytes stand for.
@@ -104,7 +88,7 @@ fn read_reading(bytes: &[u8]) -> Reading
     ensures { result ≡ (state_of bytes.now).reading }
 {
     let held = pairs_at(bytes, PAIRS);
-    let bits = bits_at(bytes);
+    let bits = array_at::<8168>(bytes, BITS);
     let count = number_at(bytes, COUNT);
     let gathered = number_at(bytes, GATHERED);
     let first = count_bytes::number_at(bytes, FIRST);
@@ -213,7 +197,7 @@ fn counts_in_range(state: Acquisition) -> bool
     !(2 * (came - first) + 16 < used + gathered + 2 * held)
 }
 
-// Whether a reading is in range.
+// Whether a reading is in range. What was tested of the state before stays a fact: a state is read from any bytes, and its numbers are public.
 fn reading_in_range(state: Acquisition) -> bool
     requires { (state.came < 1152921504606846976) × (state.held < 65536) × (length state.reading.runs.held ≡ 1632) × (length state.reading.sync.bits ≡ 8168) }
     ensures { result ≡ reading_in_range state }

@@ -203,9 +203,6 @@ module _ (K : Field) where
     pub own : (c : ℕ) → c < n → new k c ≡ old k c
     pub todo : (r c : ℕ) → i ≤ r → r < t → c < n → new r c ≡ old r c
 
-  pub swept_none : (t n k : ℕ) (m : ℕ → ℕ → F) → Swept t n k 0 m m
-  swept_none t n k m = record { done = λ r c h. absurd (omega arith); own = λ c h. refl; todo = λ r c h l b. refl }
-
   pub swept_skip : (t n k i : ℕ) (old new : ℕ → ℕ → F) → i ≡ k → Swept t n k i old new → Swept t n k (suc i) old new
   swept_skip t n k i old new e S = record { done = λ r c h b x. S.done r c (omega arith) b x; own = S.own; todo = λ r c h l b. S.todo r c (omega arith) l b }
 

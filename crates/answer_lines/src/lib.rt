@@ -44,10 +44,8 @@ pub fn put_list(lines: &[u64], count: usize, at: usize, text: &mut [u8]) -> usiz
     ensures { Appended (list_text (take count lines.now)) text.old text.new at result (at + 64 * count) }
 {
     let mut end = at;
-    let mut i: usize = 0;
-    while i < count {
+    for i in 0..count {
         end = put_entry(lines[i], end, text);
-        i += 1;
     }
     end
 }

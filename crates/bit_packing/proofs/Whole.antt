@@ -1,8 +1,8 @@
 -- Bits that fill bytes: eight of them are a byte by two products, and a byte more is written behind those before it.
 -- Assumes nothing.
-use mathlib.Core.Path.{◌≡◌, refl, sym, ap, ap₂, ◌∙◌}
+use mathlib.Core.Path.{◌≡◌, sym, ap, ap₂, ◌∙◌}
 use mathlib.Core.List.{List, [], ◌∷◌, ◌++◌, map, map-append}
-use Prim.Native.Nat.{ℕ, zero, suc, ◌+◌, ◌*◌, ◌/◌, ◌%◌, ◌≤◌, ◌<◌}
+use Prim.Native.Nat.{ℕ, suc, ◌+◌, ◌*◌, ◌%◌, ◌≤◌, ◌<◌}
 use native.Mathlib.Numerals.{add-one}
 use native.Mathlib.Omega.{arith}
 use lib.ListN.{length, get_or, take, drop, set, length-drop}
@@ -13,26 +13,6 @@ use Rattle.bit_packing.specs.Packing.{byte_of, packed_bytes}
 use Rattle.bit_packing.proofs.Bytes.{length_bytes}
 
 -- ---- four bits
-
-by_bit : (P : ℕ → Type 0) → P 0 → P 1 → (n : ℕ) → n < 2 → P n
-by_bit P p q zero h = p
-by_bit P p q (suc zero) h = q
-by_bit P p q (suc (suc n)) h = absurd (omega arith)
-
-abbrev gather : ℕ → ℕ → ℕ → ℕ → ℕ
-gather a b c d = (a + 256 * b + 65536 * c + 16777216 * d) * 134480385 / 16777216 % 16
-
-abbrev Gathers : ℕ → ℕ → ℕ → ℕ → Type 0
-Gathers a b c d = gather a b c d ≡ 8 * a + 4 * b + 2 * c + d
-
--- tried on all sixteen
-pub gathers : (a b c d : ℕ) → a < 2 → b < 2 → c < 2 → d < 2 → Gathers a b c d
-gathers a b c d ha hb hc hd =
-    by_bit (λ a. Gathers a b c d) (by_bit (λ b. Gathers 0 b c d) (last 0 0 refl refl refl refl) (last 0 1 refl refl refl refl) b hb)
-    (by_bit (λ b. Gathers 1 b c d) (last 1 0 refl refl refl refl) (last 1 1 refl refl refl refl) b hb) a ha
-  where
-    last : (a b : ℕ) → Gathers a b 0 0 → Gathers a b 0 1 → Gathers a b 1 0 → Gathers a b 1 1 → Gathers a b c d
-    last a b p q r s = by_bit (λ c. Gathers a b c d) (by_bit (λ d. Gathers a b 0 d) p q d hd) (by_bit (λ d. Gathers a b 1 d) r s d hd) c hc
 
 -- ---- eight bits
 

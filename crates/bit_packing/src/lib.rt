@@ -23,7 +23,7 @@ fn gathered(a: u8, b: u8, c: u8, d: u8) -> u64
     (a as u64 + 256 * b as u64 + 65536 * c as u64 + 16777216 * d as u64) * 134480385 / 16777216 % 16
 }
 
-// Four bits from a place on.
+// Four bits from a place on. That each byte is a bit stays a fact: the decoder gives bytes, of which eight at a time are multiplied as numbers.
 fn four_bits(bits: &[u8], at: usize) -> u64
     requires { (Bits bits.now) × (at + 4 ≤ length bits.now) }
     ensures { (result ≡ 8 * get_or bits.now at 0 + 4 * get_or bits.now (at + 1) 0 + 2 * get_or bits.now (at + 2) 0 + get_or bits.now (at + 3) 0) × (result < 16) }
@@ -37,12 +37,10 @@ fn pack_bytes(bits: &[u8], output: &mut [u8]) -> usize
     ensures { (result ≡ length bits.now / 8) × (output.new ≡ packed_bytes bits.now ++ drop result output.old) }
 {
     let count = bits.len() / 8;
-    let mut k: usize = 0;
-    while k < count {
+    for k in 0..count {
         let upper = four_bits(bits, 8 * k);
         let lower = four_bits(bits, 8 * k + 4);
         output[k] = (16 * upper + lower) as u8;
-        k += 1;
     }
     count
 }
@@ -55,16 +53,14 @@ fn pack_bits(carry: u8, held: usize, bits: &[u8], output: &mut [u8]) -> Packed
     let mut byte = carry;
     let mut n = held;
     let mut k: usize = 0;
-    let mut i: usize = 0;
-    while i < bits.len() {
-        byte = byte % 128 * 2 + bits[i];
+    for bit in bits {
+        byte = byte % 128 * 2 + *bit;
         n += 1;
         if n == 8 {
             output[k] = byte;
             k += 1;
             n = 0;
         }
-        i += 1;
     }
     Packed {
         carry: byte,

@@ -1,5 +1,6 @@
 -- Bits that begin anywhere: bits with no sync in them before blocks whose sync bytes are all in their places. Exactly those bits are skipped.
 -- Assumes nothing.
+use Rattle.std.specs.Prelude.{Some, None}
 use mathlib.Core.Path.{◌≡◌, refl, sym, ◌∙◌, ap, ap₂, subst}
 use mathlib.Core.Bool.{Bool, true, false}
 use mathlib.Core.List.{List, [], ◌∷◌, ◌++◌, append_assoc}
@@ -13,7 +14,8 @@ use Rattle.common.proofs.Choice.{false_true}
 use Rattle.sync_search.specs.Sync.{byte_at, is_at, count_at, sync_at, first, nowhere}
 use Rattle.block_sync.specs.Decision.{keeps, locked_as, unlocked, Decides, follows, begins, searches, used_bits, block_of}
 use Rattle.block_sync.specs.Feed.{holding}
-use Rattle.block_sync.specs.History.{GivenBlock, SyncFeedings, Part, part_of, part_given, given_of, skipped_of, Aligned, few, turn}
+use Rattle.block_sync.specs.History.{SyncFeedings, Part, part_of, part_given, given_of, skipped_of, Aligned, few, turn}
+use Rattle.block_sync.specs.declared.GivenBlock.{GivenBlock}
 use Rattle.block_sync.specs.Grid.{SyncGrid, grid_blocks, followers, begun, Drained, Unsynced, AnywhereGiven}
 use Rattle.block_sync.specs.declared.Lock.{Lock}
 use Rattle.block_sync.specs.declared.Decision.{Decision}
@@ -68,7 +70,7 @@ module _ {i : Bool} {f n : ℕ} (p l : List ℕ) (g : SyncGrid i f n l) (o : 5 <
 
   -- far from the blocks: all places of the buffer are passed
   abbrev searched : Decision
-  searched = record { skipped = length w - 6535; given = false; begins = false; lock = unlocked }
+  searched = record { skipped = length w - 6535; begins = None; lock = unlocked }
 
   far : 1632 < length p → Decides unlocked w searched
   unfolding keeps
@@ -76,7 +78,7 @@ module _ {i : Bool} {f n : ℕ} (p l : List ℕ) (g : SyncGrid i f n l) (o : 5 <
 
   -- near to them: the first is found
   abbrev found : Decision
-  found = record { skipped = length p; given = true; begins = true; lock = locked_as i }
+  found = record { skipped = length p; begins = Some true; lock = locked_as i }
 
   at_block : (b : ℕ) → b < 5 → length p ≤ 1632 → SyncHere i (f + b) w (length p + 1632 * b)
   unfolding SyncHere
@@ -96,7 +98,7 @@ module _ {i : Bool} {f n : ℕ} (p l : List ℕ) (g : SyncGrid i f n l) (o : 5 <
       (first (length p) (omega arith) (omega (arith, size))
       (five_found i f w (length p) (at_first k) (at_block 1 (omega arith) k) (at_block 2 (omega arith) k) (at_block 3 (omega arith) k) (at_block 4 (omega arith) k))
       (λ q a b. sync_take 8168 (p ++ l) q (omega arith) ∙ u q b))
-      (ap (λ (x : Bool). record { skipped = length p; given = true; begins = true; lock = locked_as x })
+      (ap (λ (x : Bool). record { skipped = length p; begins = Some true; lock = locked_as x })
       (sym (majority i f w (length p) false (omega (arith, size)) (at_first k) (at_block 1 (omega arith) k) (at_block 2 (omega arith) k))))
 
   block_there : length p ≤ 1632 → take 1632 (drop (length p) w) ≡ take 1632 l

@@ -1,5 +1,6 @@
 -- Bits whose sync bytes are all in their places: every block is given, the first as one that begins anew and the others as followers, and no bit is skipped.
 -- Assumes nothing.
+use Rattle.std.specs.Prelude.{Option, Some, is_some}
 use mathlib.Core.Path.{◌≡◌, refl, sym, ◌∙◌, ap, ap₂, subst}
 use mathlib.Core.Bool.{Bool, true, false}
 use mathlib.Core.List.{List, [], ◌∷◌, ◌++◌, map, append_assoc}
@@ -17,13 +18,15 @@ use Rattle.sync_search.specs.Sync.{byte_at, first}
 use Rattle.block_sync.specs.Decision.{is_sync, sync_or_end, in_a_step, polarity_at, keeps, locked_as, unlocked, Decides, follows, begins, searches, used_bits, block_of}
 use Rattle.block_sync.specs.Feed.{holding, held_bits, turned_step}
 use Rattle.block_sync.specs.Feed as feed
-use Rattle.block_sync.specs.History.{GivenBlock, step_given, SyncFeedings, Part, part_of, part_given, given_of, skipped_of, Aligned, few, turn}
+use Rattle.block_sync.specs.History.{step_given, SyncFeedings, Part, part_of, part_given, given_of, skipped_of, Aligned, few, turn}
+use Rattle.block_sync.specs.declared.GivenBlock.{GivenBlock}
 use Rattle.block_sync.specs.Grid.{sync_byte, turned_byte, SyncGrid, grid_blocks, followers, begun, Drained, done, more, GridGiven}
 use Rattle.block_sync.specs.declared.Lock.{Lock}
 use Rattle.block_sync.specs.declared.Decision.{Decision}
 use Rattle.block_sync.specs.declared.BlockSync.{BlockSync}
 use Rattle.block_sync.specs.declared.SyncStep.{SyncStep}
 use Rattle.block_sync.proofs.Tests.{polarity_short}
+use Rattle.block_sync.proofs.Buffers.{given_same}
 use Rattle.block_sync.proofs.Decisions.{decides_unique}
 use Rattle.block_sync.proofs.Majority.{SyncHere, sync_is, majority, five_found, byte_take, byte_drop}
 use Rattle.block_sync.proofs.Parts.{aligned_few}
@@ -83,17 +86,17 @@ polarity_kept {i} {f} {n} l g m h k before b = by (dec_lt (length (take m l)) 32
         majority i f (take m l) 0 before (omega (arith, s)) (first_here l g m h k) (here_in l g m 1 h (omega arith)) (here_in l g m 2 h (omega arith))
 
 abbrev pub followed : Bool → Decision
-followed i = record { skipped = 0; given = true; begins = false; lock = locked_as i }
+followed i = record { skipped = 0; begins = Some false; lock = locked_as i }
 
 abbrev pub begun_at : Bool → Decision
-begun_at i = record { skipped = 0; given = true; begins = true; lock = locked_as i }
+begun_at i = record { skipped = 0; begins = Some true; lock = locked_as i }
 
 -- while blocks are given, the next one follows
 grid_follows : {i : Bool} {f n : ℕ} (l : List ℕ) → SyncGrid i f n l → (m : ℕ) → m ≤ length l → 1632 ≤ m → Decides (locked_as i) (take m l) (followed i)
 grid_follows {i} {f} {n} l g m h k =
     let w = window_length_lem m l h in
     follows (keeps_first i (take m l) (omega arith) (sync_is i f (take m l) 0 (first_here l g m h (omega arith))))
-    (ap (λ (x : Bool). record { skipped = 0; given = true; begins = false; lock = locked_as x }) (sym (polarity_kept l g m h (omega arith) i (λ x. refl))))
+    (ap (λ (x : Bool). record { skipped = 0; begins = Some false; lock = locked_as x }) (sym (polarity_kept l g m h (omega arith) i (λ x. refl))))
 
 -- and with no lock, five sync bytes are found at once
 grid_begins : {i : Bool} {f n : ℕ} (l : List ℕ) → SyncGrid i f n l → (m : ℕ) → m ≤ length l → 6536 ≤ m → Decides unlocked (take m l) (begun_at i)
@@ -105,7 +108,7 @@ grid_begins {i} {f} {n} l g m h k =
     (five_found i f (take m l) 0 (first_here l g m h (omega arith)) (here_in l g m 1 h (omega arith)) (here_in l g m 2 h (omega arith))
     (here_in l g m 3 h (omega arith)) (here_in l g m 4 h (omega arith)))
     (λ q a b. absurd (omega arith)))
-    (ap (λ (x : Bool). record { skipped = 0; given = true; begins = true; lock = locked_as x }) (sym (polarity_kept l g m h (omega arith) false (λ x. absurd (omega arith)))))
+    (ap (λ (x : Bool). record { skipped = 0; begins = Some true; lock = locked_as x }) (sym (polarity_kept l g m h (omega arith) false (λ x. absurd (omega arith)))))
 
 -- ---- the blocks of it
 
@@ -187,13 +190,13 @@ grid_fresh {i} {f} {n} {l} {left} {last = last} g o (turn {parts = ps} d h e a) 
 -- ---- at the end
 
 -- less than a block is left: no block
-short_decides : {i : Bool} {l : List ℕ} {d : Decision} → length l < 1632 → Decides (locked_as i) l d → (d.given ≡ false) × (d.skipped ≡ 0) × (used_bits d ≡ 0)
+short_decides : {i : Bool} {l : List ℕ} {d : Decision} → length l < 1632 → Decides (locked_as i) l d → (is_some d.begins ≡ false) × (d.skipped ≡ 0) × (used_bits d ≡ 0)
 unfolding keeps
 short_decides {i} {l} e (follows k r) = false_true (sym (ap (λ (t : Bool). pick t false (in_a_step l)) (lt-ltb (length l) 1632 (omega arith))) ∙ k)
 short_decides {i} {l} e (begins at k (first at' a b s p) r) = absurd (omega arith)
 short_decides {i} {l} e (searches k f r) =
     let z : length l - 6535 ≡ 0 = omega arith in
-    (ap (λ (x : Decision). x.given) r, ap (λ (x : Decision). x.skipped) r ∙ z, ap used_bits r ∙ ap (λ (x : ℕ). x + 0) z)
+    (ap (λ (x : Decision). is_some x.begins) r, ap (λ (x : Decision). x.skipped) r ∙ z, ap used_bits r ∙ ap (λ (x : ℕ). x + 0) z)
 
 pub record GridDrained (i : Bool) (left : List ℕ) (given : List GivenBlock) (skipped : ℕ) (t : BlockSync) : Type 0 where
   pub blocks : given ≡ followers (grid_blocks i left)
@@ -202,7 +205,6 @@ pub record GridDrained (i : Bool) (left : List ℕ) (given : List GivenBlock) (s
 
 pub grid_drained : {i : Bool} {f n : ℕ} {s t : BlockSync} {left : List ℕ} {given : List GivenBlock} {skipped : ℕ} → SyncGrid i f n left → length left < 8168 → s ≡ holding (locked_as i) left
     → Drained s given skipped t → GridDrained i left given skipped t
-grid_drained g h e (done r (feed.FinishesSync.refused x y) z) = absurd (let w = ap (λ (b : BlockSync). b.held) e in omega arith)
 grid_drained {i} {f} {n} {s} {t} {left} g h e (done r (feed.FinishesSync.turned x y) z) = by (ℕ_discrete n 0)
   where
     k : s.lock ≡ locked_as i
@@ -229,8 +231,7 @@ grid_drained {i} {f} {n} {s} {t} {left} g h e (done r (feed.FinishesSync.turned 
     by (no q) =
         let a = take_all (length left) left (omega arith) in
         let v : d ≡ followed i = decides_unique (subst (λ (l : List ℕ). Decides (locked_as i) l d) (sym a) c) (grid_follows left g (length left) (omega arith) (omega (arith, g.size, q))) in
-        false_true (sym z ∙ ap (λ (b : SyncStep). b.given) y.result ∙ ap (λ (b : Decision). b.given) v)
-grid_drained g h e (more r (feed.FinishesSync.refused x y) z m) = absurd (let w = ap (λ (b : BlockSync). b.held) e in omega arith)
+        false_true (sym (ap (λ (b : Option GivenBlock). is_some b) z) ∙ (ap (λ (b : SyncStep). is_some b.block) y.result ∙ (given_same d.begins _ ∙ ap (λ (b : Decision). is_some b.begins) v)))
 grid_drained {i} {f} {n} {s} {t} {left} g h e (more {given = gs} {skipped = sk} r (feed.FinishesSync.turned x y) z m) = by (ℕ_discrete n 0) (λ b c l g h e. grid_drained {i = i} {f = b} {n = c} {left = l} g h e m)
   where
     k : s.lock ≡ locked_as i
@@ -249,7 +250,7 @@ grid_drained {i} {f} {n} {s} {t} {left} g h e (more {given = gs} {skipped = sk} 
         → GridDrained i left (step_given r ++ gs) (r.skipped + sk) t
     by (yes q) rec =
         let u = short_decides (omega (arith, g.part)) c in
-        false_true (sym u.0 ∙ sym (ap (λ (b : SyncStep). b.given) y.result) ∙ z)
+        false_true (sym u.0 ∙ sym (given_same d.begins _) ∙ sym (ap (λ (b : SyncStep). is_some b.block) y.result) ∙ z)
     by (no q) rec =
         let o : 1632 ≤ length left = omega (arith, g.size, q) in
         let a = take_all (length left) left (omega arith) in

@@ -1,5 +1,7 @@
 -- Piece after piece: what comes out follows from all the bits that came.
 -- Assumes nothing.
+use Rattle.answer.specs.declared.Refusal.{Refusal}
+use Rattle.std.specs.Prelude.{Result, Ok}
 use mathlib.Core.Path.{◌≡◌, refl, sym, ◌∙◌, ap, ap₂, subst}
 use mathlib.Core.List.{List, [], ◌∷◌, ◌++◌, map, flatten, append-nil, append_assoc}
 use Prim.Native.Nat.{ℕ, ◌+◌, ◌-◌, ◌<◌}
@@ -10,7 +12,8 @@ use lib.Seq.{length-take-le, take-length, take-append_seam}
 use Rattle.block_sync.specs.Decision.{unlocked, Decides, used_bits}
 use Rattle.block_sync.specs.Feed.{holding, held_bits, fresh_block_sync, turned_step, TurnsBuffer, FeedsSync, FinishesSync}
 use Rattle.block_sync.specs.Feed as feed
-use Rattle.block_sync.specs.History.{GivenBlock, step_given, SyncFeedings, fresh, feeding, SyncEndings, none, ending, Part, part_of, part_bits, part_given, given_of, skipped_of, Aligned, few, SyncCame, Accounted, SameSync}
+use Rattle.block_sync.specs.History.{step_given, SyncFeedings, fresh, feeding, SyncEndings, none, ending, Part, part_of, part_bits, part_given, given_of, skipped_of, Aligned, few, SyncCame, Accounted, SameSync}
+use Rattle.block_sync.specs.declared.GivenBlock.{GivenBlock}
 use Rattle.block_sync.specs.declared.Lock.{Lock}
 use Rattle.block_sync.specs.declared.Decision.{Decision}
 use Rattle.block_sync.specs.declared.BlockSync.{BlockSync}
@@ -80,9 +83,8 @@ turns_came {bits} {given} {skipped} {s} c part n d h =
       skips = ap (λ (x : ℕ). x + skipped_of (part_of d l ∷ [])) c.skips ∙ sym (skipped_append c.parts (part_of d l ∷ []));
     }
 
-pub feeds_came : {bits : List ℕ} {given : List GivenBlock} {skipped : ℕ} {s : BlockSync} → SyncCame bits given skipped s → (piece : List ℕ) (r : SyncStep) → FeedsSync s piece r
+pub feeds_came : {bits : List ℕ} {given : List GivenBlock} {skipped : ℕ} {s : BlockSync} → SyncCame bits given skipped s → (piece : List ℕ) (r : SyncStep) → FeedsSync s piece (Ok r)
     → SyncCame (bits ++ take r.taken piece) (given ++ step_given r) (skipped + r.skipped) r.sync
-feeds_came {s = s} c piece r (feed.FeedsSync.refused h e) = absurd (let x = aligned_few c.aligned in omega (arith, held_count_lem s c.left c.state))
 feeds_came {bits} {given} {skipped} {s} c piece r (feed.FeedsSync.gathered h e) =
     subst (λ (x : SyncStep). SyncCame (bits ++ take x.taken piece) (given ++ step_given x) (skipped + x.skipped) x.sync) (sym e)
     (rw (take-length piece, append-nil given, add-zero skipped) (gathers_came c piece h))
@@ -130,26 +132,25 @@ any_pieces p q = came_unique (every_history p) (every_history q)
 turns_unique : {taken : ℕ} {k : Lock} {l : List ℕ} {r r' : SyncStep} → TurnsBuffer taken k l r → TurnsBuffer taken k l r' → r ≡ r'
 turns_unique {taken} {l = l} t t' = t.result ∙ ap (λ (d : Decision). turned_step taken d l) (decides_unique t.decides t'.decides) ∙ sym t'.result
 
-pub feeds_unique : {s : BlockSync} {piece : List ℕ} {r r' : SyncStep} → FeedsSync s piece r → FeedsSync s piece r' → r ≡ r'
-feeds_unique (feed.FeedsSync.refused h e) (feed.FeedsSync.refused h' e') = e ∙ sym e'
-feeds_unique (feed.FeedsSync.refused h e) (feed.FeedsSync.gathered h' e') = absurd (omega arith)
-feeds_unique (feed.FeedsSync.refused h e) (feed.FeedsSync.turned h' k' t') = absurd (omega arith)
-feeds_unique (feed.FeedsSync.gathered h e) (feed.FeedsSync.refused h' e') = absurd (omega arith)
-feeds_unique (feed.FeedsSync.gathered h e) (feed.FeedsSync.gathered h' e') = e ∙ sym e'
+pub feeds_unique : {s : BlockSync} {piece : List ℕ} {r r' : Result SyncStep Refusal} → FeedsSync s piece r → FeedsSync s piece r' → r ≡ r'
+feeds_unique (feed.FeedsSync.refused h) (feed.FeedsSync.refused h') = refl
+feeds_unique (feed.FeedsSync.refused h) (feed.FeedsSync.gathered h' e') = absurd (omega arith)
+feeds_unique (feed.FeedsSync.refused h) (feed.FeedsSync.turned h' k' t') = absurd (omega arith)
+feeds_unique (feed.FeedsSync.gathered h e) (feed.FeedsSync.refused h') = absurd (omega arith)
+feeds_unique (feed.FeedsSync.gathered h e) (feed.FeedsSync.gathered h' e') = ap (λ (r : SyncStep). Ok r) (e ∙ sym e')
 feeds_unique (feed.FeedsSync.gathered h e) (feed.FeedsSync.turned h' k' t') = absurd (omega arith)
-feeds_unique (feed.FeedsSync.turned h k t) (feed.FeedsSync.refused h' e') = absurd (omega arith)
+feeds_unique (feed.FeedsSync.turned h k t) (feed.FeedsSync.refused h') = absurd (omega arith)
 feeds_unique (feed.FeedsSync.turned h k t) (feed.FeedsSync.gathered h' e') = absurd (omega arith)
-feeds_unique (feed.FeedsSync.turned h k t) (feed.FeedsSync.turned h' k' t') = turns_unique t t'
+feeds_unique (feed.FeedsSync.turned h k t) (feed.FeedsSync.turned h' k' t') = ap (λ (r : SyncStep). Ok r) (turns_unique t t')
 
-pub finishes_unique : {s : BlockSync} {r r' : SyncStep} → FinishesSync s r → FinishesSync s r' → r ≡ r'
-finishes_unique (feed.FinishesSync.refused h e) (feed.FinishesSync.refused h' e') = e ∙ sym e'
-finishes_unique (feed.FinishesSync.refused h e) (feed.FinishesSync.turned h' t') = absurd (omega arith)
-finishes_unique (feed.FinishesSync.turned h t) (feed.FinishesSync.refused h' e') = absurd (omega arith)
-finishes_unique (feed.FinishesSync.turned h t) (feed.FinishesSync.turned h' t') = turns_unique t t'
+pub finishes_unique : {s : BlockSync} {r r' : Result SyncStep Refusal} → FinishesSync s r → FinishesSync s r' → r ≡ r'
+finishes_unique (feed.FinishesSync.refused h) (feed.FinishesSync.refused h') = refl
+finishes_unique (feed.FinishesSync.refused h) (feed.FinishesSync.turned h' t') = absurd (omega arith)
+finishes_unique (feed.FinishesSync.turned h t) (feed.FinishesSync.refused h') = absurd (omega arith)
+finishes_unique (feed.FinishesSync.turned h t) (feed.FinishesSync.turned h' t') = ap (λ (r : SyncStep). Ok r) (turns_unique t t')
 
 -- a call takes at least a bit of a piece that has one, and all of it where the buffer is not filled
-pub takes_some : {s : BlockSync} {piece : List ℕ} {r : SyncStep} → FeedsSync s piece r → s.held < 8168 → 0 < length piece → 0 < r.taken
-takes_some (feed.FeedsSync.refused h e) k n = absurd (omega arith)
+pub takes_some : {s : BlockSync} {piece : List ℕ} {r : SyncStep} → FeedsSync s piece (Ok r) → s.held < 8168 → 0 < length piece → 0 < r.taken
 takes_some (feed.FeedsSync.gathered h e) k n = let t = ap (λ (x : SyncStep). x.taken) e in omega arith
 takes_some (feed.FeedsSync.turned h k' t) k n = let u = ap (λ (x : SyncStep). x.taken) t.result in omega arith
 
@@ -165,9 +166,8 @@ record EndCame (k : Lock) (start : List ℕ) (given : List GivenBlock) (skipped 
   pub blocks : given ≡ given_of parts
   pub skips : skipped ≡ skipped_of parts
 
-finish_came : {k : Lock} {start : List ℕ} {given : List GivenBlock} {skipped : ℕ} {t : BlockSync} → EndCame k start given skipped t → (r : SyncStep) → FinishesSync t r
+finish_came : {k : Lock} {start : List ℕ} {given : List GivenBlock} {skipped : ℕ} {t : BlockSync} → EndCame k start given skipped t → (r : SyncStep) → FinishesSync t (Ok r)
     → EndCame k start (given ++ step_given r) (skipped + r.skipped) r.sync
-finish_came {t = t} c r (feed.FinishesSync.refused h e) = absurd (omega (arith, held_count_lem t c.left c.state, c.fewer))
 finish_came {k} {start} {given} {skipped} {t} c r (feed.FinishesSync.turned h b) =
     let l = c.left in
     let d = b.decision in

@@ -1,5 +1,6 @@
 -- The parts that decisions cut bits into: they make up the bits, each block has its bits, and one that does not begin anew follows the one before it.
 -- Assumes nothing.
+use Rattle.std.specs.Prelude.{Option, Some, None, is_some, unwrap_or, option_map, option_to_list}
 use mathlib.Core.Path.{◌≡◌, refl, sym, ◌∙◌, ap, ap₂, subst}
 use mathlib.Core.Bool.{Bool, true, false}
 use mathlib.Core.List.{List, [], ◌∷◌, ◌++◌, map, flatten, append-nil, append_assoc}
@@ -13,7 +14,8 @@ use Rattle.common.specs.Choice.{pick}
 use Rattle.common.proofs.Choice.{false_true}
 use Rattle.common.specs.Lists.{All}
 use Rattle.block_sync.specs.Decision.{keeps, Decides, follows, begins, searches, used_bits, block_of, block_given}
-use Rattle.block_sync.specs.History.{GivenBlock, Part, part_of, part_bits, part_given, given_of, skipped_of, Sized, Linked, Aligned, few, turn}
+use Rattle.block_sync.specs.History.{Part, part_of, part_bits, part_given, given_of, skipped_of, Sized, Linked, Aligned, few, turn}
+use Rattle.block_sync.specs.declared.GivenBlock.{GivenBlock}
 use Rattle.block_sync.specs.declared.Lock.{Lock}
 use Rattle.block_sync.specs.declared.Decision.{Decision}
 use Rattle.block_sync.proofs.Decisions.{used_within, used_some, decides_unique}
@@ -40,7 +42,7 @@ by_given true sk w = sym (take-add sk 1632 w)
 by_given false sk w = append-nil (take sk w) ∙ ap (λ (k : ℕ). take k w) (sym (add-zero sk))
 
 part_bits_lem : (d : Decision) (w : List ℕ) → part_bits (part_of d w) ≡ take (used_bits d) w
-part_bits_lem d w = by_given d.given d.skipped w
+part_bits_lem d w = by_given (is_some d.begins) d.skipped w
 
 within : {k : Lock} (l : List ℕ) {d : Decision} (n : ℕ) → n ≤ length l → Decides k (take n l) d → used_bits d ≤ n
 within l n h e = let u = used_within e in omega (arith, length-take-le n l h)
@@ -54,22 +56,22 @@ size_by true sk w h = length-take-le 1632 (drop sk w) (omega (arith, length-drop
 size_by false sk w h = refl
 
 part_sized : {k : Lock} {w : List ℕ} {d : Decision} → Decides k w d → Sized (part_of d w)
-part_sized {w = w} {d} e = size_by d.given d.skipped w (used_within e)
+part_sized {w = w} {d} e = size_by (is_some d.begins) d.skipped w (used_within e)
 
-given_by : (g b i : Bool) (x z : List ℕ) → ◌≡◌ {A = List GivenBlock} (pick g (record { begins = b; block = pick g (block_of i x) z } ∷ []) [])
-    (pick g (record { begins = b; block = block_of i (pick g x []) } ∷ []) [])
-given_by true b i x z = refl
-given_by false b i x z = refl
+given_by : (g : Option Bool) (i : Bool) (x : List ℕ) → option_to_list (option_map {U = GivenBlock} (λ b. record { begins = b; bytes = block_of i x }) g)
+    ≡ pick (is_some g) (record { begins = unwrap_or g false; bytes = block_of i (pick (is_some g) x []) } ∷ []) []
+given_by (Some b) i x = refl
+given_by None i x = refl
 
 -- a decision gives the block of its part
-pub part_given_lem : (d : Decision) (w : List ℕ) → ◌≡◌ {A = List GivenBlock} (pick d.given (record { begins = d.begins; block = block_given d w } ∷ []) []) (part_given (part_of d w))
-part_given_lem d w = given_by d.given d.begins d.lock.inverted (take 1632 (drop d.skipped w)) _
+pub part_given_lem : (d : Decision) (w : List ℕ) → option_to_list (block_given d w) ≡ part_given (part_of d w)
+part_given_lem d w = given_by d.begins d.lock.inverted (take 1632 (drop d.skipped w))
 
 -- blocks are being given exactly after one was
-given_locked : {k : Lock} {w : List ℕ} {d : Decision} → Decides k w d → d.given ≡ d.lock.locked
-given_locked (follows e r) = ap (λ (x : Decision). x.given) r ∙ sym (ap (λ (x : Decision). x.lock.locked) r)
-given_locked (begins at e f r) = ap (λ (x : Decision). x.given) r ∙ sym (ap (λ (x : Decision). x.lock.locked) r)
-given_locked (searches e f r) = ap (λ (x : Decision). x.given) r ∙ sym (ap (λ (x : Decision). x.lock.locked) r)
+given_locked : {k : Lock} {w : List ℕ} {d : Decision} → Decides k w d → is_some d.begins ≡ d.lock.locked
+given_locked (follows e r) = ap (λ (x : Decision). is_some x.begins) r ∙ sym (ap (λ (x : Decision). x.lock.locked) r)
+given_locked (begins at e f r) = ap (λ (x : Decision). is_some x.begins) r ∙ sym (ap (λ (x : Decision). x.lock.locked) r)
+given_locked (searches e f r) = ap (λ (x : Decision). is_some x.begins) r ∙ sym (ap (λ (x : Decision). x.lock.locked) r)
 
 locked_by : (a b : Bool) → pick a b false ≡ true → a ≡ true
 locked_by true b e = refl
@@ -79,10 +81,10 @@ keeps_locked : (k : Lock) (w : List ℕ) → keeps k w ≡ true → k.locked ≡
 unfolding keeps
 keeps_locked k w e = locked_by k.locked _ e
 
-part_linked : {k : Lock} {w : List ℕ} {d : Decision} → Decides k w d → d.given ≡ true → d.begins ≡ false → (k.locked ≡ true) × (take d.skipped w ≡ [])
+part_linked : {k : Lock} {w : List ℕ} {d : Decision} → Decides k w d → is_some d.begins ≡ true → unwrap_or d.begins false ≡ false → (k.locked ≡ true) × (take d.skipped w ≡ [])
 part_linked {k} {w} (follows e r) g b = (keeps_locked k w e, ap (λ (x : Decision). take x.skipped w) r)
-part_linked (begins at e f r) g b = false_true (sym b ∙ ap (λ (x : Decision). x.begins) r)
-part_linked (searches e f r) g b = false_true (sym (ap (λ (x : Decision). x.given) r) ∙ g)
+part_linked (begins at e f r) g b = false_true (sym b ∙ ap (λ (x : Decision). unwrap_or x.begins false) r)
+part_linked (searches e f r) g b = false_true (sym (ap (λ (x : Decision). is_some x.begins) r) ∙ g)
 
 -- ---- all of them
 
@@ -112,7 +114,7 @@ parts_counted (p ∷ ps) s =
     let a = length-append (part_bits p) (flatten (map part_bits ps)) in
     let b = length-append p.skipped p.bits in
     let c = length-append (part_given p) (given_of ps) in
-    let o = one p.given (record { begins = p.begins; block = block_of p.inverted p.bits }) in
+    let o = one p.given (record { begins = p.begins; bytes = block_of p.inverted p.bits }) in
     let i = parts_counted ps s.1 in
     omega (arith, s.0)
 

@@ -1,6 +1,7 @@
 -- Blocks, then bits with no sync in them, as a slip of the symbol clock leaves, then blocks again: the lock is lost and found, and the first block behind the
 -- slip is given as one that begins anew.
 -- Assumes nothing.
+use Rattle.std.specs.Prelude.{Some}
 use mathlib.Core.Path.{◌≡◌, refl, sym, ◌∙◌, ap, ap₂, subst}
 use mathlib.Core.Bool.{Bool, true, false}
 use mathlib.Core.List.{List, [], ◌∷◌, ◌++◌, append_assoc}
@@ -18,7 +19,8 @@ use Rattle.common.proofs.Choice.{false_true}
 use Rattle.sync_search.specs.Sync.{byte_at, is_at, first}
 use Rattle.block_sync.specs.Decision.{is_sync, sync_or_end, in_a_step, three_at, polarity_at, keeps, locked_as, unlocked, Decides, follows, begins, used_bits, block_of}
 use Rattle.block_sync.specs.Feed.{holding}
-use Rattle.block_sync.specs.History.{GivenBlock, SyncFeedings, Part, part_of, part_given, given_of, skipped_of, Aligned, few, turn}
+use Rattle.block_sync.specs.History.{SyncFeedings, Part, part_of, part_given, given_of, skipped_of, Aligned, few, turn}
+use Rattle.block_sync.specs.declared.GivenBlock.{GivenBlock}
 use Rattle.block_sync.specs.Grid.{SyncGrid, grid_blocks, followers, begun, Drained, Unsynced, SlipGiven}
 use Rattle.block_sync.specs.declared.Lock.{Lock}
 use Rattle.block_sync.specs.declared.Decision.{Decision}
@@ -121,7 +123,7 @@ module _ {i : Bool} {f n : ℕ} (c y : List ℕ) (g : SyncGrid i f n c) (whole :
   front_follows : 0 < n → Decides (locked_as i) w (followed i)
   front_follows o =
       follows (keeps_first i w (omega (arith, size)) (sync_is i f w 0 (front_first o)))
-      (ap (λ (x : Bool). record { skipped = 0; given = true; begins = false; lock = locked_as x }) (sym (stays o)))
+      (ap (λ (x : Bool). record { skipped = 0; begins = Some false; lock = locked_as x }) (sym (stays o)))
 
   front_begins : 4 < n → Decides unlocked w (begun_at i)
   unfolding keeps
@@ -131,7 +133,7 @@ module _ {i : Bool} {f n : ℕ} (c y : List ℕ) (g : SyncGrid i f n c) (whole :
       (five_found i f w 0 (front_first (omega arith)) (front_here 1 (omega arith) (omega arith)) (front_here 2 (omega arith) (omega arith)) (front_here 3 (omega arith) (omega arith))
       (front_here 4 (omega arith) (omega arith)))
       (λ q a b. absurd (omega arith)))
-      (ap (λ (x : Bool). record { skipped = 0; given = true; begins = true; lock = locked_as x })
+      (ap (λ (x : Bool). record { skipped = 0; begins = Some true; lock = locked_as x })
       (sym (majority i f w 0 false (omega (arith, size)) (front_first (omega arith)) (front_here 1 (omega arith) (omega arith)) (front_here 2 (omega arith) (omega arith)))))
 
   front_block : 0 < n → take 1632 w ≡ take 1632 c

@@ -2,13 +2,13 @@
 -- Clauses: EN 300 421, 4.4.1 to 4.4.3 (source document 002): the sync byte of every eighth packet is inverted, the sync bytes keep their period of 204
 -- bytes in the interleaved stream, and tell a half turn of the carrier, which inverts every bit.
 -- Assumes nothing.
-use Rattle.std.specs.Prelude.{◌≡◌, Bool, true, false, List, map, ℕ, ◌+◌, ◌-◌, ◌%◌, eqb, ltb, length, take, drop, replicate}
+use Rattle.std.specs.Prelude.{◌≡◌, Bool, true, false, List, map, ℕ, ◌+◌, ◌-◌, ◌%◌, eqb, ltb, length, take, drop, Option, Some, None, is_some, option_map}
 use Rattle.common.specs.Choice.{pick}
 use Rattle.bit_packing.specs.Packing.{packed_bytes}
 use Rattle.sync_search.specs.Sync.{byte_at, is_at, FirstSync}
-use Rattle.sync_search.specs.declared.SyncPlace.TheVariants.{At, Nowhere}
 use Rattle.block_sync.specs.declared.Lock.{Lock}
 use Rattle.block_sync.specs.declared.Decision.{Decision}
+use Rattle.block_sync.specs.declared.GivenBlock.{GivenBlock}
 
 -- 47 or B8 at a place, straight or inverted
 unfoldable pub is_sync : List ℕ → ℕ → Bool
@@ -48,10 +48,10 @@ unlocked = record { locked = false; inverted = false }
 -- The block at the front follows; or the first place with five sync bytes a block apart is searched for, and the block there begins anew; or there is no
 -- such place, and all places that were searched are skipped.
 pub data Decides (k : Lock) (l : List ℕ) (d : Decision) : Type 0 where
-  follows : keeps k l ≡ true → d ≡ record { skipped = 0; given = true; begins = false; lock = locked_as (polarity_at l 0 k.inverted) } → Decides k l d
-  begins : (at : ℕ) → keeps k l ≡ false → FirstSync l 0 (At at) → d ≡ record { skipped = at; given = true; begins = true; lock = locked_as (polarity_at l at false) }
+  follows : keeps k l ≡ true → d ≡ record { skipped = 0; begins = Some false; lock = locked_as (polarity_at l 0 k.inverted) } → Decides k l d
+  begins : (at : ℕ) → keeps k l ≡ false → FirstSync l 0 (Some at) → d ≡ record { skipped = at; begins = Some true; lock = locked_as (polarity_at l at false) }
       → Decides k l d
-  searches : keeps k l ≡ false → FirstSync l 0 Nowhere → d ≡ record { skipped = length l - 6535; given = false; begins = false; lock = unlocked } → Decides k l d
+  searches : keeps k l ≡ false → FirstSync l 0 None → d ≡ record { skipped = length l - 6535; begins = None; lock = unlocked } → Decides k l d
 
 -- ---- what it gives
 
@@ -68,8 +68,8 @@ unfolding turned_bits
 block_of inverted l = packed_bytes (turned_bits inverted l)
 
 abbrev pub used_bits : Decision → ℕ
-used_bits d = d.skipped + pick d.given 1632 0
+used_bits d = d.skipped + pick (is_some d.begins) 1632 0
 
--- the block behind the bits that are skipped, or zeros
-abbrev pub block_given : Decision → List ℕ → List ℕ
-block_given d l = pick d.given (block_of d.lock.inverted (take 1632 (drop d.skipped l))) (replicate 204 0)
+-- the block behind the bits that are skipped, if one is given
+abbrev pub block_given : Decision → List ℕ → Option GivenBlock
+block_given d l = option_map (λ b. record { begins = b; bytes = block_of d.lock.inverted (take 1632 (drop d.skipped l)) }) d.begins

@@ -1,13 +1,14 @@
 -- Bits whose sync bytes are all in their places, as a sender's are: what comes of them.
 -- Clauses: EN 300 421, 4.4.1 and 4.4.3 (source document 002).
 -- Assumes nothing.
-use Rattle.std.specs.Prelude.{◌≡◌, Bool, true, false, List, [], ◌∷◌, ◌++◌, map, ℕ, ◌+◌, ◌-◌, ◌*◌, ◌%◌, ◌<◌, ◌≤◌, eqb, length}
+use Rattle.std.specs.Prelude.{◌≡◌, Bool, true, false, List, [], ◌∷◌, ◌++◌, map, ℕ, ◌+◌, ◌-◌, ◌*◌, ◌%◌, ◌<◌, ◌≤◌, eqb, length, None, Ok, IsSome}
 use Rattle.common.specs.Choice.{pick}
 use Rattle.common.specs.Lists.{chunks_of}
 use Rattle.sync_search.specs.Sync.{byte_at, sync_at}
 use Rattle.block_sync.specs.Decision.{block_of}
 use Rattle.block_sync.specs.Feed.{FinishesSync}
-use Rattle.block_sync.specs.History.{GivenBlock, step_given}
+use Rattle.block_sync.specs.History.{step_given}
+use Rattle.block_sync.specs.declared.GivenBlock.{GivenBlock}
 use Rattle.block_sync.specs.declared.BlockSync.{BlockSync}
 use Rattle.block_sync.specs.declared.SyncStep.{SyncStep}
 
@@ -31,17 +32,17 @@ grid_blocks inverted l = map (block_of inverted) (chunks_of 1632 l)
 
 -- blocks that follow one another
 abbrev pub followers : List (List ℕ) → List GivenBlock
-followers bs = map (λ b. record { begins = false; block = b }) bs
+followers bs = map (λ b. record { begins = false; bytes = b }) bs
 
 -- the first of them begins anew
 abbrev pub begun : List (List ℕ) → List GivenBlock
 begun [] = []
-begun (b ∷ bs) = record { begins = true; block = b } ∷ followers bs
+begun (b ∷ bs) = record { begins = true; bytes = b } ∷ followers bs
 
 -- At the end of the bits: call after call until none gives a block.
 pub data Drained : BlockSync → List GivenBlock → ℕ → BlockSync → Type 0 where
-  done : {s : BlockSync} (r : SyncStep) → FinishesSync s r → r.given ≡ false → Drained s [] r.skipped r.sync
-  more : {s t : BlockSync} {given : List GivenBlock} {skipped : ℕ} (r : SyncStep) → FinishesSync s r → r.given ≡ true → Drained r.sync given skipped t
+  done : {s : BlockSync} (r : SyncStep) → FinishesSync s (Ok r) → r.block ≡ None → Drained s [] r.skipped r.sync
+  more : {s t : BlockSync} {given : List GivenBlock} {skipped : ℕ} (r : SyncStep) → FinishesSync s (Ok r) → IsSome r.block → Drained r.sync given skipped t
       → Drained s (step_given r ++ given) (r.skipped + skipped) t
 
 -- ---- what the theorems say

@@ -1,6 +1,6 @@
 -- Feeding after feeding, and what all the bits come to, whatever pieces they came in.
 -- Assumes nothing.
-use Rattle.std.specs.Prelude.{◌≡◌, Bool, true, false, ℕ, ◌+◌, ◌*◌, ◌≤◌, ◌<◌, length, take, drop}
+use Rattle.std.specs.Prelude.{◌≡◌, Bool, true, false, ℕ, ◌+◌, ◌*◌, ◌≤◌, ◌<◌, length, take, drop, Ok, is_some, unwrap_or, option_to_list}
 use mathlib.Core.List.{List, [], ◌∷◌, ◌++◌, map, flatten}
 use Rattle.common.specs.Choice.{pick}
 use Rattle.common.specs.Lists.{All, total}
@@ -10,26 +10,23 @@ use Rattle.block_sync.specs.declared.Lock.{Lock}
 use Rattle.block_sync.specs.declared.Decision.{Decision}
 use Rattle.block_sync.specs.declared.BlockSync.{BlockSync}
 use Rattle.block_sync.specs.declared.SyncStep.{SyncStep}
+use Rattle.block_sync.specs.declared.GivenBlock.{GivenBlock}
 
--- a block that went out, and whether it is one that does not follow the block before it
-pub record GivenBlock : Type 0 where
-  pub begins : Bool
-  pub block : List ℕ
-
+-- the block that went out, where one did, and whether it is one that does not follow the block before it
 abbrev pub step_given : SyncStep → List GivenBlock
-step_given r = pick r.given (record { begins = r.begins; block = r.block } ∷ []) []
+step_given r = option_to_list r.block
 
 -- A history of calls from a fresh value on, each with the value that the one before it left: the bits that were taken, the blocks that were given, one
 -- after the other, and how many bits were skipped.
 pub data SyncFeedings : List ℕ → List GivenBlock → ℕ → BlockSync → Type 0 where
   fresh : SyncFeedings [] [] 0 fresh_block_sync
-  feeding : {bits : List ℕ} {given : List GivenBlock} {skipped : ℕ} {s : BlockSync} (piece : List ℕ) (r : SyncStep) → SyncFeedings bits given skipped s → FeedsSync s piece r
+  feeding : {bits : List ℕ} {given : List GivenBlock} {skipped : ℕ} {s : BlockSync} (piece : List ℕ) (r : SyncStep) → SyncFeedings bits given skipped s → FeedsSync s piece (Ok r)
       → SyncFeedings (bits ++ take r.taken piece) (given ++ step_given r) (skipped + r.skipped) r.sync
 
 -- Calls at the end of the bits, any number.
 pub data SyncEndings (s : BlockSync) : List GivenBlock → ℕ → BlockSync → Type 0 where
   none : SyncEndings s [] 0 s
-  ending : {given : List GivenBlock} {skipped : ℕ} {t : BlockSync} (r : SyncStep) → SyncEndings s given skipped t → FinishesSync t r
+  ending : {given : List GivenBlock} {skipped : ℕ} {t : BlockSync} (r : SyncStep) → SyncEndings s given skipped t → FinishesSync t (Ok r)
       → SyncEndings s (given ++ step_given r) (skipped + r.skipped) r.sync
 
 -- ---- what all the bits come to
@@ -45,10 +42,10 @@ pub record Part : Type 0 where
 abbrev pub part_of : Decision → List ℕ → Part
 part_of d l = record {
   skipped = take d.skipped l;
-  given = d.given;
-  begins = d.begins;
+  given = is_some d.begins;
+  begins = unwrap_or d.begins false;
   inverted = d.lock.inverted;
-  bits = pick d.given (take 1632 (drop d.skipped l)) [];
+  bits = pick (is_some d.begins) (take 1632 (drop d.skipped l)) [];
 }
 
 abbrev pub part_bits : Part → List ℕ
@@ -56,7 +53,7 @@ part_bits p = p.skipped ++ p.bits
 
 -- the block of a part: its bits, straight or inverted
 abbrev pub part_given : Part → List GivenBlock
-part_given p = pick p.given (record { begins = p.begins; block = block_of p.inverted p.bits } ∷ []) []
+part_given p = pick p.given (record { begins = p.begins; bytes = block_of p.inverted p.bits } ∷ []) []
 
 abbrev pub given_of : List Part → List GivenBlock
 given_of [] = []

@@ -7,18 +7,20 @@ use Prim.Native.Nat.{ℕ, zero, suc, ◌+◌, ◌-◌, ◌*◌, ◌/◌, ◌%◌
 use native.Mathlib.Omega.{arith}
 use native.Mathlib.Nat.{add-zero, add-suc, zero-mod, mod-one, mod-add-mod, mod-lt}
 use native.Mathlib.Numerals.{add-one}
-use lib.Dec.{eqb, ltb, leb, ltb→lt, leb→le}
+use lib.Dec.{eqb}
 use lib.ListN.{length, get_or, set, take, drop, length-append, length-drop}
 use lib.Seq.{length-take-le, get_or-take}
 use Rattle.common.proofs.Each.{Each, each_none, each_more}
 use Rattle.common.proofs.Lists.{put_own}
 use Rattle.puncturing.specs.Mode.{mode_of, qpsk_count}
 use Rattle.puncturing.specs.Step.{pattern_length}
-use Rattle.puncturing.proofs.Places.{tested_at, agreed_at}
+use Rattle.puncturing.proofs.Places.{agreed_at}
 use Rattle.common.specs.Choice.{pick}
 use Rattle.convolutional_code.specs.Code.{taps_x, taps_y, coded, next_memory}
 use Rattle.convolutional_code.specs.Costs.{Costs, cost_from, decision_cost, pair_cost, step_costs, Pairs}
-use Rattle.branch_metrics.specs.Steps.{kind, width, kind_cost, kind_at, first, punctured_costs, decision_at, coded_cost, step_pair, run_step}
+use Rattle.branch_metrics.specs.declared.depuncturing.Sent.{Sent}
+use Rattle.branch_metrics.specs.declared.depuncturing.Sent.TheVariants.{Neither, OnlyY, OnlyX, Both}
+use Rattle.branch_metrics.specs.Steps.{kind_of, kind, width, kind_cost, kind_at, first, punctured_costs, decision_at, coded_cost, step_pair, run_step}
 
 -- ---- decisions
 
@@ -90,32 +92,14 @@ cost_same F G k m [] h = refl
 cost_same F G k m (b ∷ bs) h =
     rw (h k m b (omega arith), cost_same F G (suc k) (next_memory m b) bs (λ j s b l. h j s b (omega arith)))
 
-pub wide : (q : ℕ) → 0 < q → 1 ≤ width q
-wide zero h = absurd (omega arith)
-wide (suc zero) h = omega arith
-wide (suc (suc zero)) h = omega arith
-wide (suc (suc (suc q))) h = omega arith
-
-pub three : (q : ℕ) → 0 < q → q ≤ 3 → (q ≡ 1 → ⊥) → (q ≡ 2 → ⊥) → q ≡ 3
-three q h l a b = omega arith
-
-pub width_three : (q : ℕ) → q ≡ 3 → width q ≡ 2
-width_three q e = ap width e
-
 -- ---- the places of a run
 
-kind_lt : (rate place : ℕ) → rate < qpsk_count → place < pattern_length rate → (0 < kind rate place) × (kind rate place ≤ 3)
-unfolding kind mode_of flatten
-kind_lt rate place h l = (
-  ltb→lt 0 (kind rate place) (tested_at (λ r p. ltb 0 (kind r p)) tt rate place h l),
-  leb→le (kind rate place) 3 (tested_at (λ r p. leb (kind r p) 3) tt rate place h l),
-)
+abbrev pub sent_table : List Sent
+sent_table = Both ∷ Neither ∷ Neither ∷ Neither ∷ Neither ∷ Neither ∷ Neither ∷ Both ∷ OnlyY ∷ Both ∷ OnlyY ∷ Neither ∷ Neither ∷ Neither ∷ Both ∷ OnlyY ∷ OnlyX ∷ Neither ∷ Neither ∷ Neither ∷ Neither ∷ Both ∷ OnlyY ∷ OnlyX ∷ OnlyY ∷ OnlyX ∷ Neither ∷ Neither ∷ Both ∷ OnlyY ∷ OnlyY ∷ OnlyY ∷ OnlyX ∷ OnlyY ∷ OnlyX ∷ []
 
-pub table_is : (rate place : ℕ) → rate < qpsk_count → place < pattern_length rate
-    → get_or (3 ∷ 0 ∷ 0 ∷ 0 ∷ 0 ∷ 0 ∷ 0 ∷ 3 ∷ 1 ∷ 3 ∷ 1 ∷ 0 ∷ 0 ∷ 0 ∷ 3 ∷ 1 ∷ 2 ∷ 0 ∷ 0 ∷ 0 ∷ 0 ∷ 3 ∷ 1 ∷ 2 ∷ 1 ∷ 2 ∷ 0 ∷ 0 ∷ 3 ∷ 1 ∷ 1 ∷ 1 ∷ 2 ∷ 1 ∷ 2 ∷ []) (7 * rate + place) 0 ≡ kind rate place
+pub table_is : (rate place : ℕ) → rate < qpsk_count → place < pattern_length rate → kind_of (get_or sent_table (7 * rate + place) Neither) ≡ kind rate place
 unfolding kind mode_of flatten
-table_is rate place h l =
-    agreed_at (λ r p. get_or (3 ∷ 0 ∷ 0 ∷ 0 ∷ 0 ∷ 0 ∷ 0 ∷ 3 ∷ 1 ∷ 3 ∷ 1 ∷ 0 ∷ 0 ∷ 0 ∷ 3 ∷ 1 ∷ 2 ∷ 0 ∷ 0 ∷ 0 ∷ 0 ∷ 3 ∷ 1 ∷ 2 ∷ 1 ∷ 2 ∷ 0 ∷ 0 ∷ 3 ∷ 1 ∷ 1 ∷ 1 ∷ 2 ∷ 1 ∷ 2 ∷ []) (7 * r + p) 0) kind tt rate place h l
+table_is rate place h l = agreed_at (λ r p. kind_of (get_or sent_table (7 * r + p) Neither)) kind tt rate place h l
 
 first_le_add : (rate k d : ℕ) → first rate k ≤ first rate (k + d)
 unfolding first
@@ -146,18 +130,17 @@ half_step l k =
     sym (rw (half_kind k, half_first k, decision_i l k, decision_q l k) e)
 
 -- so the symbols are put as they are
-pub half_spread : (l output exit : List ℕ) (n m : ℕ) → m ≡ n → n ≤ length l → n ≤ length output
-    → exit ≡ take 0 output ++ take m l ++ drop (0 + length (take m l)) output
+pub half_spread : (l output exit : List ℕ) (n : ℕ) → n ≤ length l → n ≤ length output → exit ≡ take 0 output ++ take n l ++ drop (0 + length (take n l)) output
     → (length exit ≡ length output) × ((t : ℕ) → t < n → get_or exit t 0 ≡ run_step l 0 t)
-half_spread l output exit n m q h k e =
-    let part = take m l in
-    let size : length part ≡ m = length-take-le m l (omega arith) in (
+half_spread l output exit n h k e =
+    let part = take n l in
+    let size : length part ≡ n = length-take-le n l h in (
       ap length e ∙ (length-append part (drop (0 + length part) output) ∙ omega (arith, size, length-drop (0 + length part) output)),
       λ t g.
           let i : 0 + t ≡ t = omega arith in
           ap (λ (x : List ℕ). get_or x t 0) e
           ∙ (ap (λ (j : ℕ). get_or (part ++ drop (0 + length part) output) j 0) (sym i) ∙ put_own output part 0 t (omega (arith, size)) (omega (arith, size)))
-          ∙ (get_or-take m l t 0 (omega arith) ∙ half_step l t),
+          ∙ (get_or-take n l t 0 g ∙ half_step l t),
     )
 
 -- ---- rate 3/4: both coded bits of one bit are sent, Y of the next and X of the one after it
@@ -210,33 +193,21 @@ module _ (l : List ℕ) (k : ℕ) where
       let j : first 2 (suc (suc (3 * k))) ≡ 2 * (2 * k + 1) + 1 = omega (arith, third_bit k, three_first k) in
       sym (rw (kind_third k, j) (ap (λ (d : ℕ). 9 * d + 8) (decision_q l (2 * k + 1))))
 
--- so many patterns are spread
-pub record Threes (l : List ℕ) (n k s at : ℕ) (output₀ output : List ℕ) : Type 0 where
-  pub most : k ≤ n
-  pub symbol : s ≡ 2 * k
-  pub step : at ≡ 3 * k
-  pub written : Each (λ t v. v ≡ run_step l 2 t) (length output₀) output at
+-- one pattern more is spread
+abbrev pub Spread_3_4 : List ℕ → ℕ → List ℕ → ℕ → Type 0
+Spread_3_4 l size output k = Each (λ t v. v ≡ run_step l 2 t) size output (3 * k)
 
-pub threes_none : (l : List ℕ) (n : ℕ) (output : List ℕ) → Threes l n 0 0 0 output output
-threes_none l n output = record { most = omega arith; symbol = refl; step = refl; written = each_none refl }
-
-pub threes_more : (l : List ℕ) (n : ℕ) {k s at : ℕ} {output₀ output : List ℕ} → Threes l n k s at output₀ output → k < n → 3 * n ≤ length output₀
-    → Threes l n (k + 1) (s + 1 + 1) (at + 1 + 1 + 1) output₀
-    (set (set (set output at (get_or l s 0)) (at + 1) (72 + get_or l (s + 1) 0 / 9)) (at + 1 + 1) (9 * (get_or l (s + 1) 0 % 9) + 8))
-threes_more l n {k} {s} {at} {output₀} {output} g h fits =
-    let es = g.symbol in
-    let ea = g.step in
-    let e1 : at + 1 ≡ suc (3 * k) = omega arith in
-    let e2 : at + 1 + 1 ≡ suc (suc (3 * k)) = omega arith in
-    let v1 : get_or l s 0 ≡ run_step l 2 at = ap (λ (i : ℕ). get_or l i 0) es ∙ step_first l k ∙ ap (run_step l 2) (sym ea) in
-    let v2 : 72 + get_or l (s + 1) 0 / 9 ≡ run_step l 2 (at + 1) = ap (λ (i : ℕ). 72 + get_or l (i + 1) 0 / 9) es ∙ step_second l k ∙ ap (run_step l 2) (sym e1) in
-    let v3 : 9 * (get_or l (s + 1) 0 % 9) + 8 ≡ run_step l 2 (at + 1 + 1) = ap (λ (i : ℕ). 9 * (get_or l (i + 1) 0 % 9) + 8) es ∙ step_third l k ∙ ap (run_step l 2) (sym e2) in
-    record {
-      most = omega arith;
-      symbol = omega arith;
-      step = omega arith;
-      written = each_more _ (omega arith) v3 (each_more _ (omega arith) v2 (each_more _ (omega arith) v1 g.written));
-    }
+pub threes_more : (l : List ℕ) {k n size : ℕ} {output : List ℕ} → Spread_3_4 l size output k → k < n → 3 * n ≤ size
+    → Spread_3_4 l size (set (set (set output (3 * k) (get_or l (2 * k) 0)) (3 * k + 1) (72 + get_or l (2 * k + 1) 0 / 9)) (3 * k + 2) (9 * (get_or l (2 * k + 1) 0 % 9) + 8))
+    (k + 1)
+threes_more l {k} g h fits =
+    let e1 : 3 * k + 1 ≡ suc (3 * k) = omega arith in
+    let e2 : 3 * k + 1 + 1 ≡ suc (suc (3 * k)) = omega arith in
+    let third : 3 * k + 2 ≡ 3 * k + 1 + 1 = omega arith in
+    let all : 3 * (k + 1) ≡ 3 * k + 1 + 1 + 1 = omega arith in
+    rw (third, all)
+    (each_more _ (omega arith) (step_third l k ∙ ap (run_step l 2) (sym e2))
+    (each_more _ (omega arith) (step_second l k ∙ ap (run_step l 2) (sym e1)) (each_more _ (omega arith) (step_first l k) g)))
 
 -- ---- the loop
 
@@ -270,9 +241,8 @@ in_pattern l rate n p {k} {place} g e h =
     let lt : place < pattern_length rate = rw g.here (mod-lt k z) in
     (lt, rw e lt)
 
-pub asks : (l : List ℕ) (rate n len : ℕ) {k place j : ℕ} {output₀ output : List ℕ} → Spreading l rate n k place j output₀ output → k < n → rate < qpsk_count
-    → place < pattern_length rate → first rate n ≤ 2 * len → (q : ℕ) → q ≡ kind rate place → (j + width q ≤ 2 * len) × (0 < q) × (q ≤ 3)
-asks l rate n len {k} {place} {j} g h hr hp fits q e =
+pub asks : (l : List ℕ) (rate n len : ℕ) {k place j : ℕ} {output₀ output : List ℕ} → Spreading l rate n k place j output₀ output → k < n
+    → first rate n ≤ 2 * len → (q : ℕ) → q ≡ kind rate place → j + width q ≤ 2 * len
+asks l rate n len {k} g h fits q e =
     let w : width q ≡ width (kind_at rate k) = ap width (e ∙ ap (kind rate) g.here) in
-    let u = kind_lt rate place hr hp in
-    (omega (arith, first_le rate k n h, g.bit), rw e u.0, rw e u.1)
+    omega (arith, first_le rate k n h, g.bit)

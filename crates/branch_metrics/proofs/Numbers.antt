@@ -5,24 +5,18 @@ use mathlib.Core.Bool.{Bool, true, false, cond}
 use mathlib.Core.List.{List, [], ◌∷◌}
 use Prim.Native.Nat.{ℕ, ◌+◌, ◌-◌, ◌*◌, ◌/◌, ◌%◌, ◌≤◌, ◌<◌}
 use native.Mathlib.Omega.{arith}
-use mir.Val.{bool_byte}
 use borrow.Author.Tests.{lt-ltb}
 use lib.Dec.{T, eqb, eqb_refl}
 use lib.Ieee.{Float, nan, inf, fin, le, ne, is_nan, of_bits, binary32, up, down}
 use lib.ListN.{length}
+use Rattle.std.specs.Prelude.{Some, None}
 use Rattle.common.specs.Choice.{pick, indicator}
 use Rattle.common.specs.Lists.{total}
 use Rattle.branch_metrics.specs.Level.{thresholds, level_of}
 use Rattle.convolutional_code.specs.Costs.{one_cost, decision_cost, pair_cost}
-use Rattle.branch_metrics.specs.Cost.{BitCosts, number_costs, symbol_costs, free, by_level, decided_as, softly}
+use Rattle.branch_metrics.specs.Cost.{BitCosts, number_costs, symbol_costs, free, by_level, decided_as, softly, ReceivedSymbol}
 use Rattle.branch_metrics.specs.SoftPairs.{number_decision, marked, symbol_pair}
 use Rattle.branch_metrics.proofs.Facts.{pair_is}
-use Rattle.branch_metrics.specs.declared.soft_decision.ReceivedSymbol.{ReceivedSymbol}
-use Rattle.branch_metrics.specs.declared.soft_decision.ReceivedSymbol.TheVariants.{At, Lost}
-
-pub byte_is : (b : Bool) → (bool_byte b ≡ indicator b) × (bool_byte b ≤ 1)
-byte_is true = (refl, omega arith)
-byte_is false = (refl, omega arith)
 
 true_of : (b : Bool) → T b → b ≡ true
 true_of true t = refl
@@ -73,8 +67,8 @@ number_lt x = by (is_nan x)
 
 pub symbol_lt : (r : ReceivedSymbol) → symbol_pair r < 81
 unfolding symbol_pair
-symbol_lt (At p) = omega (arith, number_lt p.i, number_lt p.q)
-symbol_lt Lost = omega arith
+symbol_lt (Some p) = omega (arith, number_lt p.i, number_lt p.q)
+symbol_lt None = omega arith
 
 -- nothing is known of a NaN, whatever the mark of its symbol
 pub marked_nan : (mark : ℕ) → marked mark 8 ≡ 8
@@ -99,10 +93,10 @@ number_is x v = by (is_nan x)
 -- and the pair of a symbol what the symbol does
 pub symbol_is : (r : ReceivedSymbol) (sent : ℕ) → pair_cost (symbol_pair r) (sent / 2) (sent % 2) ≡ softly r sent
 unfolding symbol_pair symbol_costs
-symbol_is (At p) sent =
+symbol_is (Some p) sent =
     pair_is (number_decision p.i) (number_decision p.q) (sent / 2) (sent % 2) (number_lt p.q)
     ∙ ap₂ (λ (x y : ℕ). x + y) (number_is p.i (sent / 2)) (number_is p.q (sent % 2))
-symbol_is Lost sent = pair_is 8 8 (sent / 2) (sent % 2) (omega arith)
+symbol_is None sent = pair_is 8 8 (sent / 2) (sent % 2) (omega arith)
 
 -- ---- particular numbers
 

@@ -12,20 +12,15 @@ use lib.Dec.{eqb}
 use lib.Ieee.{Float}
 use lib.ListN.{length, get_or, take, drop, length-take}
 use lib.Seq.{get_or-take}
+use Rattle.std.specs.Prelude.{None}
 use Rattle.common.specs.Choice.{pick}
 use Rattle.common.specs.Lists.{All}
 use Rattle.common.proofs.Each.{Each}
 use Rattle.common.proofs.Lists.{All-of, put_own, put_other}
 use Rattle.common.proofs.Outputs.{length_placed}
-use Rattle.branch_metrics.specs.Cost.{received, received_of}
+use Rattle.branch_metrics.specs.Cost.{received, received_of, ReceivedSymbol}
 use Rattle.branch_metrics.specs.SoftPairs.{number_decision, marked, symbol_pair, symbol_at}
-use Rattle.branch_metrics.specs.declared.soft_decision.ReceivedSymbol.{ReceivedSymbol}
-use Rattle.branch_metrics.specs.declared.soft_decision.ReceivedSymbol.TheVariants.{Lost}
 use Rattle.branch_metrics.proofs.Numbers.{symbol_lt}
-
-pub is_lost : (i q : Float) (n : ℕ) → (n ≡ 0 → ⊥) → Lost ≡ received i q n
-is_lost i q zero h = absurd (h refl)
-is_lost i q (suc n) h = refl
 
 -- ---- lists of one length
 
@@ -37,7 +32,7 @@ length_received (i ∷ is) (q ∷ qs) [] a b = absurd (omega arith)
 length_received (i ∷ is) (q ∷ qs) (m ∷ lost) a b = ap suc (length_received is qs lost (omega arith) (omega arith))
 
 pub received_at : (is qs : List Float) (lost : List ℕ) → length qs ≡ length is → length lost ≡ length is → (k : ℕ) → k < length is
-    → get_or (received_of is qs lost) k Lost ≡ symbol_at is qs lost k
+    → get_or (received_of is qs lost) k None ≡ symbol_at is qs lost k
 unfolding received_of
 received_at [] qs lost a b k h = absurd (omega arith)
 received_at (i ∷ is) [] lost a b k h = absurd (omega arith)

@@ -1,12 +1,15 @@
 -- What a received symbol makes each decision cost.
 -- Clause: document 02, P8.
 -- Assumes nothing.
-use Rattle.std.specs.Prelude.{cond, List, [], ◌∷◌, ℕ, zero, suc, ◌+◌, ◌-◌, ◌/◌, ◌%◌, eqb, Float}
+use Rattle.std.specs.Prelude.{cond, List, [], ◌∷◌, ℕ, zero, suc, ◌+◌, ◌-◌, ◌/◌, ◌%◌, eqb, Float, Some, None, Option}
 use Rattle.std.specs.Float.Ieee.{is_nan}
+use Rattle.branch_metrics.specs.declared.soft_decision.Point.{Point}
 use Rattle.common.specs.Choice.{pick}
 use Rattle.branch_metrics.specs.Level.{level_of}
-use Rattle.branch_metrics.specs.declared.soft_decision.ReceivedSymbol.{ReceivedSymbol}
-use Rattle.branch_metrics.specs.declared.soft_decision.ReceivedSymbol.TheVariants.{At, Lost}
+
+-- a symbol as the demodulator hands it over: the point that was received, or none where the symbol was lost
+abbrev pub ReceivedSymbol : Type 0
+ReceivedSymbol = Option Point
 
 -- what deciding a bit as 0, and as 1, costs; and the costs of I and of Q
 pub record BitCosts : Type 0 where
@@ -29,8 +32,8 @@ number_costs x = cond (is_nan x) free (by_level (level_of x))
 
 -- a lost symbol costs nothing either way
 unfoldable pub symbol_costs : ReceivedSymbol → SymbolCosts
-symbol_costs (At p) = record { i = number_costs p.i; q = number_costs p.q }
-symbol_costs Lost = record { i = free; q = free }
+symbol_costs (Some p) = record { i = number_costs p.i; q = number_costs p.q }
+symbol_costs None = record { i = free; q = free }
 
 -- deciding a bit as 0 or as 1
 abbrev pub decided_as : BitCosts → ℕ → ℕ
@@ -44,8 +47,8 @@ softly r sent = decided_as (symbol_costs r).i (sent / 2) + decided_as (symbol_co
 
 -- a mark of 0 is for a point, and any other for a lost symbol
 abbrev pub received : Float → Float → ℕ → ReceivedSymbol
-received i q zero = At (record { i = i; q = q })
-received i q (suc mark) = Lost
+received i q zero = Some (record { i = i; q = q })
+received i q (suc mark) = None
 
 unfoldable pub received_of : List Float → List Float → List ℕ → List ReceivedSymbol
 received_of [] qs lost = []

@@ -16,15 +16,6 @@ pub struct Point {
     pub q: f32,
 }
 
-// A symbol as the demodulator hands it over.
-#[derive(Clone, Copy)]
-pub enum ReceivedSymbol {
-    // The point that was received.
-    At(Point),
-    // The symbol was lost.
-    Lost,
-}
-
 // 1 where the threshold is at or below x, else 0.
 fn reaches(threshold: f32, x: f32) -> u8
     ensures { (result ≡ indicator (le threshold x)) × (result ≤ 1) }
@@ -72,31 +63,32 @@ fn point_levels(point: Point) -> u8
     9 * number_decision(point.i) + number_decision(point.q)
 }
 
-// The decisions on a received symbol, in the same way.
-fn symbol_pair(symbol: ReceivedSymbol) -> u8
+// The decisions on a symbol as the demodulator hands it over, in the same way: the point that was received, or none where the symbol was lost.
+fn symbol_pair(symbol: Option<Point>) -> u8
     ensures { result ≡ symbol_pair symbol }
 {
     match symbol {
-        ReceivedSymbol::At(point) => point_levels(point),
-        ReceivedSymbol::Lost => 80,
+        Some(point) => point_levels(point),
+        None => 80,
     }
 }
 
-// The symbol at a place of the three lists.
-fn received_at(is: &[f32], qs: &[f32], lost: &[u8], at: usize) -> ReceivedSymbol
+// The symbol at a place of the three lists. They stay three, one beside the other, as the calls of the C interface give them: symbols in a list of their own
+// would be a copy of the run.
+fn received_at(is: &[f32], qs: &[f32], lost: &[u8], at: usize) -> Option<Point>
     requires { (at < length is.now) × (at < length qs.now) × (at < length lost.now) }
     ensures { result ≡ symbol_at is.now qs.now lost.now at }
 {
     let i = is[at];
     let q = qs[at];
     if lost[at] == 0 {
-        ReceivedSymbol::At(Point { i, q })
+        Some(Point { i, q })
     } else {
-        ReceivedSymbol::Lost
+        None
     }
 }
 
-// What follows does the same to sixteen symbols at once.
+// What follows does the same to sixteen symbols at once, from a place of the lists on: the definitions count from the start of the run.
 
 // What one threshold adds to the levels of sixteen numbers, from a place of a list on.
 fn raised(levels: &[u8; 16], threshold: f32, list: &[f32], at: usize) -> [u8; 16]
@@ -104,10 +96,8 @@ fn raised(levels: &[u8; 16], threshold: f32, list: &[f32], at: usize) -> [u8; 16
     ensures { (i : ℕ) → i < 16 → (get_or result i 0 ≡ get_or levels.now i 0 + indicator (le threshold (get_or list.now (at + i) nan))) × (get_or result i 0 ≤ get_or levels.now i 0 + 1) }
 {
     let mut r = [0u8; 16];
-    let mut i = 0;
-    while i < 16 {
+    for i in 0..16 {
         r[i] = levels[i] + reaches(threshold, list[at + i]);
-        i += 1;
     }
     r
 }
@@ -134,10 +124,8 @@ fn sixteen_decisions(list: &[f32], marks: &[u8], at: usize) -> [u8; 16]
 {
     let levels = sixteen_levels(list, at);
     let mut r = [0u8; 16];
-    let mut i = 0;
-    while i < 16 {
+    for i in 0..16 {
         r[i] = decision(list[at + i], marks[at + i], levels[i]);
-        i += 1;
     }
     r
 }
@@ -147,10 +135,8 @@ fn paired(is: &[u8; 16], qs: &[u8; 16]) -> [u8; 16]
     ensures { (k : ℕ) → k < 16 → get_or result k 0 ≡ 9 * get_or is.now k 0 + get_or qs.now k 0 }
 {
     let mut r = [0u8; 16];
-    let mut k = 0;
-    while k < 16 {
+    for k in 0..16 {
         r[k] = 9 * is[k] + qs[k];
-        k += 1;
     }
     r
 }
@@ -170,13 +156,12 @@ fn write_sixteens(is: &[f32], qs: &[f32], lost: &[u8], output: &mut [u8]) -> usi
     requires { (length qs.now ≡ length is.now) × (length lost.now ≡ length is.now) × (length is.now ≤ length output.old) }
     ensures { (result ≤ length is.now) × ((t : ℕ) → t < result → get_or output.new t 0 ≡ symbol_pair (symbol_at is.now qs.now lost.now t)) }
 {
-    let mut k = 0;
-    while is.len() - k >= 16 {
-        let pairs = sixteen_pairs(is, qs, lost, k);
-        put(&pairs, k, output);
-        k += 16;
+    let turns = is.len() / 16;
+    for n in 0..turns {
+        let pairs = sixteen_pairs(is, qs, lost, 16 * n);
+        put(&pairs, 16 * n, output);
     }
-    k
+    16 * turns
 }
 
 // Writes the pair of each symbol of a run.
@@ -184,9 +169,8 @@ pub fn soft_pairs(is: &[f32], qs: &[f32], lost: &[u8], output: &mut [u8])
     requires { (length qs.now ≡ length is.now) × (length lost.now ≡ length is.now) × (length is.now ≤ length output.old) }
     ensures { (t : ℕ) → t < length is.now → get_or output.new t 0 ≡ symbol_pair (symbol_at is.now qs.now lost.now t) }
 {
-    let mut k = write_sixteens(is, qs, lost, output);
-    while k < is.len() {
+    let whole = write_sixteens(is, qs, lost, output);
+    for k in whole..is.len() {
         output[k] = symbol_pair(received_at(is, qs, lost, k));
-        k += 1;
     }
 }

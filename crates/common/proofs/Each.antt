@@ -1,6 +1,6 @@
 -- A loop that stores one element a turn: what holds of each element stored so far.
 -- Assumes nothing.
-use mathlib.Core.Path.{◌≡◌, refl, sym, ◌∙◌, subst}
+use mathlib.Core.Path.{◌≡◌, sym, ◌∙◌, subst}
 use mathlib.Core.List.{List}
 use Prim.Native.Nat.{ℕ, ◌+◌, ◌≤◌, ◌<◌}
 use native.Mathlib.Decide.{ℕ_discrete}
@@ -38,21 +38,3 @@ pub record Updated (P : ℕ → ℕ → Type 0) (old new : List ℕ) (n : ℕ) :
   pub len : length new ≡ length old
   pub done : (k : ℕ) → k < n → P k (get_or new k 0)
   pub todo : (k : ℕ) → n ≤ k → get_or new k 0 ≡ get_or old k 0
-
-module _ {P : ℕ → ℕ → Type 0} {old : List ℕ} where
-  pub updated_none : Updated P old old 0
-  updated_none = record { len = refl; done = λ k h. absurd (omega arith); todo = λ k h. refl }
-
-  pub updated_more : {new : List ℕ} {n : ℕ} (v : ℕ) → n < length old → P n v → Updated P old new n → Updated P old (set new n v) (n + 1)
-  updated_more {new} {n} v h p u =
-      record {
-        len = length-set new n v ∙ u.len;
-        done = λ k l. go k l (ℕ_discrete k n);
-        todo = λ k l. get_or-set_other new n k v 0 (λ e. omega arith) ∙ u.todo k (omega arith);
-      }
-    where
-      go : (k : ℕ) → k < n + 1 → Dec (k ≡ n) → P k (get_or (set new n v) k 0)
-      go k l (yes q) =
-          subst (λ (i : ℕ). P i (get_or (set new n v) i 0)) (sym q)
-          (subst (P n) (sym (get_or-set_same new n v 0 (omega (arith, u.len)))) p)
-      go k l (no q) = subst (P k) (sym (get_or-set_other new n k v 0 q)) (u.done k (omega arith))

@@ -5,7 +5,7 @@ use mathlib.Core.List.{List, [], ◌++◌, append_assoc, append-nil}
 use Prim.Native.Nat.{ℕ, ◌+◌, ◌-◌, ◌≤◌}
 use native.Mathlib.Nat.{add-zero, add_assoc}
 use native.Mathlib.Omega.{arith}
-use lib.ListN.{length, take, drop, length-append, length-drop, drop_of_length-le, take-append-drop}
+use lib.ListN.{length, take, drop, length-append, length-drop, take-append-drop}
 use lib.Seq.{take_at, drop_at, length-take-le, drop-drop}
 use Rattle.common.specs.Lists.{placed}
 use Rattle.common.proofs.Written.{Written, written_all}
@@ -18,10 +18,6 @@ pub placed_none : (output : List ℕ) (at : ℕ) → output ≡ placed output at
 placed_none output at =
     sym
     (ap₂ (λ (x : List ℕ) (n : ℕ). x ++ drop n output) (append-nil (take at output)) (add-zero at) ∙ take-append-drop at output)
-
--- a list that fills the output
-pub placed_full : (output s : List ℕ) → length s ≡ length output → placed output 0 s ≡ s
-placed_full output s e = ap (λ (l : List ℕ). s ++ l) (drop_of_length-le output {i = 0 + length s} (omega arith)) ∙ append-nil s
 
 module _ (output : List ℕ) (at : ℕ) (s : List ℕ) (fits : at + length s ≤ length output) where
   length_front : length (take at output ++ s) ≡ at + length s

@@ -23,6 +23,18 @@ sweep_at os h n (suc k) zero l = ap (λ (m : ℕ). total_at os h m % 2) (sym (ad
 sweep_at os h n (suc k) (suc i) l =
     sweep_at os h (suc n) k i (le_of_suc-le-suc l) ∙ ap (λ (m : ℕ). total_at os h m % 2) (suc-add n i ∙ sym (add-suc n i))
 
+-- of five taps
+pub total_five : (os h : List ℕ) (n : ℕ) → length os ≡ 5
+    → get_or h (n + get_or os 0 0) 0 + (get_or h (n + get_or os 1 0) 0 + (get_or h (n + get_or os 2 0) 0 + (get_or h (n + get_or os 3 0) 0 + (get_or h (n + get_or os 4 0) 0 + 0))))
+    ≡ total_at os h n
+total_five (a ∷ b ∷ c ∷ d ∷ e ∷ []) h n l = refl
+total_five (a ∷ b ∷ c ∷ d ∷ e ∷ f ∷ os) h n l = absurd (omega arith)
+total_five (a ∷ b ∷ c ∷ d ∷ []) h n l = absurd (omega arith)
+total_five (a ∷ b ∷ c ∷ []) h n l = absurd (omega arith)
+total_five (a ∷ b ∷ []) h n l = absurd (omega arith)
+total_five (a ∷ []) h n l = absurd (omega arith)
+total_five [] h n l = absurd (omega arith)
+
 -- the digits of a memory that a bit was put on top of
 digits_under : (b q : ℕ)
     → ((b * 32 + q) / 2 % 2 ≡ q / 2 % 2) × ((b * 32 + q) / 4 % 2 ≡ q / 4 % 2) × ((b * 32 + q) / 8 % 2 ≡ q / 8 % 2) × ((b * 32 + q) / 16 % 2 ≡ q / 16 % 2)

@@ -7,7 +7,7 @@ use native.Mathlib.Numerals.{add-one}
 use native.Mathlib.Omega.{arith}
 use borrow.Rule.Slice.PartMut.{put_mid, mid_of, post_of, same_len_mid}
 use lib.ListN.{length, get_or, take, length-append}
-use lib.Seq.{take_at, take_all, take-suc, length-take-le}
+use lib.Seq.{take_at, take-suc, length-take-le}
 use Rattle.convolutional_code.specs.Bits.{bits_of}
 use Rattle.convolutional_code.specs.Sweep.{oldest}
 use Rattle.convolutional_code.proofs.Bits.{bits_split, length_bits}
@@ -57,10 +57,3 @@ unpacked_more {memory} {block} {history} {i} u part after k l p n =
   where
     next : (i : ℕ) → 8 * i + 6 + 8 ≡ 8 * (i + 1) + 6
     next i = omega arith
-
-pub unpacked_all : {memory : ℕ} {block history : List ℕ} {i : ℕ} → Unpacked memory block history i → i ≡ length block
-    → history ≡ oldest memory ++ bits_of block
-unpacked_all {memory} {block} {history} {i} u e =
-    sym (take_all (8 * i + 6) history (omega (arith, u.size)))
-    ∙ u.front
-    ∙ ap (λ (x : List ℕ). oldest memory ++ bits_of x) (take_all i block (omega arith))

@@ -2,24 +2,36 @@
 // Inner: its functions may require what the crates above have tested. docs/ARCHITECTURE.md names the public surface.
 #![tactic(auto)]
 
-ghost use Rattle.std.specs.Prelude.{◌≡◌, [], ◌∷◌, ◌++◌, ◌+◌, ◌*◌, ◌%◌, ◌≤◌, ◌<◌, length, drop};
-ghost use Rattle.common.specs.Lists.{placed};
+ghost use Rattle.std.specs.Prelude.{◌≡◌, ℕ, [], ◌∷◌, ◌++◌, ◌+◌, ◌*◌, ◌%◌, ◌≤◌, ◌<◌, length, get_or, drop};
 ghost use Rattle.convolutional_code.specs.Bits.{bits_of, Bits};
 ghost use Rattle.convolutional_code.specs.Code.{taps_x, taps_y, coded, next_memory, memory_after, block_mother};
 ghost use Rattle.convolutional_code.specs.Sweep.{oldest, offsets_x, offsets_y, sweep, memory_at};
 
+// A bit goes as a number, 0 or 1, here and below: it is summed with those of the memory.
 pub fn x_of(memory: u8, bit: u8) -> u8
     requires { bit < 2 }
     ensures { result ≡ coded taps_x memory bit }
 {
-    (bit + memory / 32 % 2 + memory / 16 % 2 + memory / 8 % 2 + memory % 2) % 2
+    parity(
+        bit,
+        memory / 32 % 2,
+        memory / 16 % 2,
+        memory / 8 % 2,
+        memory % 2,
+    )
 }
 
 pub fn y_of(memory: u8, bit: u8) -> u8
     requires { bit < 2 }
     ensures { result ≡ coded taps_y memory bit }
 {
-    (bit + memory / 16 % 2 + memory / 8 % 2 + memory / 2 % 2 + memory % 2) % 2
+    parity(
+        bit,
+        memory / 16 % 2,
+        memory / 8 % 2,
+        memory / 2 % 2,
+        memory % 2,
+    )
 }
 
 pub fn next_memory(memory: u8, bit: u8) -> u8
@@ -63,11 +75,9 @@ fn unpack(memory: u8, bytes: &[u8], history: &mut [u8])
     ensures { history.new ≡ oldest memory ++ bits_of bytes.now }
 {
     unpack_memory(memory, history);
-    let mut i: usize = 0;
-    while i < bytes.len() {
+    for (i, b) in bytes.iter().enumerate() {
         let n = 8 * i + 6;
-        unpack_byte(bytes[i], &mut history[n..]);
-        i += 1;
+        unpack_byte(*b, &mut history[n..]);
     }
 }
 
@@ -79,39 +89,24 @@ fn parity(a: u8, b: u8, c: u8, d: u8, e: u8) -> u8
     (a + b + c + d + e) % 2
 }
 
-// Writes a coded bit for each bit but the first six, from at on. The taps are counted from the oldest of seven bits.
-fn convolve(
-    history: &[u8],
-    bits: usize,
-    a: usize,
-    b: usize,
-    c: usize,
-    d: usize,
-    e: usize,
-    coded: &mut [u8],
-    at: usize,
-)
+// Writes a coded bit for each bit but the first six. The taps are counted from the oldest of seven bits.
+// That each byte of a history is a bit stays a fact beside it: the sums are of the bytes as numbers.
+fn convolve(history: &[u8], taps: [usize; 5], coded: &mut [u8])
     requires { (Bits history.now)
-        × (bits ≤ 1632)
-        × (length history.now ≡ bits + 6)
-        × (a ≤ 6)
-        × (b ≤ 6)
-        × (c ≤ 6)
-        × (d ≤ 6)
-        × (e ≤ 6)
-        × (at + bits ≤ length coded.old) }
-    ensures { coded.new ≡ placed coded.old at (sweep (a ∷ b ∷ c ∷ d ∷ e ∷ []) history.now 0 bits) }
+        × (length coded.old ≤ 1632)
+        × (length history.now ≡ length coded.old + 6)
+        × ((i : ℕ) → get_or taps i 0 ≤ 6) }
+    ensures { coded.new ≡ sweep taps history.now 0 (length coded.old) }
 {
-    let mut n: usize = 0;
-    while n < bits {
-        coded[at + n] = parity(
+    let [a, b, c, d, e] = taps;
+    for n in 0..coded.len() {
+        coded[n] = parity(
             history[n + a],
             history[n + b],
             history[n + c],
             history[n + d],
             history[n + e],
         );
-        n += 1;
     }
 }
 
@@ -120,8 +115,8 @@ fn mother(history: &[u8], bits: usize, coded: &mut [u8])
     requires { (Bits history.now) × (bits ≤ 1632) × (length history.now ≡ bits + 6) × (length coded.old ≡ bits + bits) }
     ensures { coded.new ≡ sweep offsets_x history.now 0 bits ++ sweep offsets_y history.now 0 bits }
 {
-    convolve(history, bits, 6, 5, 4, 3, 0, coded, 0);
-    convolve(history, bits, 6, 4, 3, 1, 0, coded, bits);
+    convolve(history, [6, 5, 4, 3, 0], &mut coded[..bits]);
+    convolve(history, [6, 4, 3, 1, 0], &mut coded[bits..]);
 }
 
 // The number that six bits make, the oldest first.

@@ -4,24 +4,25 @@ use mathlib.Core.Path.{◌≡◌, sym, ap, ◌∙◌, subst}
 use mathlib.Core.List.{List, ◌++◌}
 use Prim.Native.Nat.{ℕ, ◌≤◌, ◌<◌}
 use native.Mathlib.Omega.{arith}
-use borrow.Author.Tests.{eq-eqb, ne_eqb}
-use lib.Dec.{eqb}
 use lib.ListN.{length, drop, set}
-use Rattle.common.specs.Choice.{pick}
+use Rattle.std.proofs.Common.{Result, Ok, Err}
+use Rattle.answer.proofs.Positive.{number_positive}
+use Rattle.answer.specs.Number.{answered, given_or}
+use Rattle.answer.specs.declared.Refusal.{Refusal}
 use Rattle.receiver.specs.Receive.{fresh_receiver}
-use Rattle.receiver.specs.declared.Receiver.{Receiver}
+use Rattle.recording.specs.declared.Recorded.{Recorded}
 use Rattle.recording.specs.Recording.{AnswersRecording}
 use Rattle.recording.specs.Recording as recording
 use Rattle.reception_counts.specs.Bytes.{count_bytes}
 use Rattle.dvbs.specs.ReceiveRun.{ReceiveExported, refused, taken}
 
-module _ (blocks marks output exit counts after answer told : List ℕ) (refusal r number count : ℕ) (last : Receiver) (one : 1 ≤ length answer)
-    (rs : r ≡ pick (eqb number 0) count 0) (cs : after ≡ pick (eqb number 0) (count_bytes last.counts ++ drop 64 counts) counts) (ts : told ≡ set answer 0 number) where
-  pub run_exported : AnswersRecording fresh_receiver blocks marks output refusal number count last exit → ReceiveExported blocks marks output exit counts after answer told refusal r
-  run_exported (recording.refused e h c l x) =
-      let n = ne_eqb number 0 (λ z. omega arith) in
-      refused one (subst (λ (k : ℕ). 0 < k) e h) (rs ∙ simp n) x (cs ∙ simp n) (ts ∙ ap (set answer 0) e)
-  run_exported (recording.taken h e t) =
-      let n = eq-eqb number 0 e in
-      let f : count ≡ r = sym (rs ∙ simp n) in
-      taken one h last (subst (λ (k : ℕ). recording.TakesRecording fresh_receiver blocks marks output k last exit) f t) (cs ∙ simp n) (ts ∙ ap (set answer 0) e)
+module _ (blocks marks output exit counts after answer told : List ℕ) (refusal r : ℕ) (one : 1 ≤ length answer) where
+  pub run_exported : (recorded : Result Recorded Refusal) → r ≡ given_or 0 (λ x. x.count) recorded
+      → after ≡ given_or counts (λ x. count_bytes x.receiver.counts ++ drop 64 counts) recorded → told ≡ set answer 0 (answered recorded)
+      → AnswersRecording fresh_receiver blocks marks output refusal (answered recorded) (given_or 0 (λ x. x.count) recorded) (given_or fresh_receiver (λ x. x.receiver) recorded) exit
+      → ReceiveExported blocks marks output exit counts after answer told refusal r
+  run_exported (Ok k) rs cs ts (recording.refused e h c l x) = absurd (omega arith)
+  run_exported (Ok k) rs cs ts (recording.taken h e t) =
+      taken one h k.receiver (subst (λ (n : ℕ). recording.TakesRecording fresh_receiver blocks marks output n k.receiver exit) (sym rs) t) cs ts
+  run_exported (Err x) rs cs ts (recording.refused e h c l w) = refused one (subst (λ (n : ℕ). 0 < n) e h) rs w cs (ts ∙ ap (set answer 0) e)
+  run_exported (Err x) rs cs ts (recording.taken h e t) = absurd (omega (arith, number_positive x))

@@ -2,12 +2,11 @@
 // Their declarations for C are in include/dvbs.h.
 #![tactic(auto)]
 
-ghost use Rattle.std.specs.Prelude.{◌≡◌, ◌≤◌, ◌++◌, eqb, length, drop, set};
+ghost use Rattle.std.specs.Prelude.{◌≡◌, ◌≤◌, ◌++◌, length, drop, set};
 ghost use Rattle.reed_solomon.specs.Encode.{encode_number, encode_output};
 ghost use Rattle.randomizer.specs.Packet.{randomize_number, randomize_output, derandomize_number, derandomize_output};
-ghost use Rattle.common.specs.Choice.{pick};
-ghost use Rattle.answer.specs.Number.{number_of};
-ghost use Rattle.reed_solomon.specs.Decode.{Decodes, decoded_number};
+ghost use Rattle.answer.specs.Number.{answered, given_or};
+ghost use Rattle.reed_solomon.specs.Decode.{Decodes};
 ghost use Rattle.reed_solomon.specs.Marks.{DecodesMarked};
 ghost use Rattle.reception_counts.specs.Bytes.{count_bytes};
 ghost use Rattle.dvbs.specs.Decode.{count_after, decode_refusal, decode_marked_refusal, DecodeExported};
@@ -16,9 +15,10 @@ ghost use Rattle.dvbs.specs.ReceiveRun.{ReceiveRunExported, ReceiveMarkedRunExpo
 ghost use Rattle.dvbs.specs.RecordingBlock.{RecordingBlockExported};
 ghost use Rattle.dvbs.specs.LossesRun.{LossesExported};
 
+use answer::Refusal;
 use reception_counts::count_bytes::put_counts;
 use recording::Recorded;
-use reed_solomon::Decoded;
+use reed_solomon::Changed;
 
 // Randomizes a packet at a place of its group: the number of the answer.
 #[unsafe(no_mangle)]
@@ -26,8 +26,7 @@ pub extern "C" fn dvbs_randomize(place: u8, packet: &[u8], output: &mut [u8]) ->
     ensures { (result ≡ randomize_number place packet.now output.old)
         × (output.new ≡ randomize_output place packet.now output.old) }
 {
-    let answer = randomizer::randomize(place, packet, output);
-    answer.number()
+    answer::answered(&randomizer::randomize(place, packet, output))
 }
 
 // Derandomizes a packet at a place of its group: the number of the answer.
@@ -36,8 +35,7 @@ pub extern "C" fn dvbs_derandomize(place: u8, packet: &[u8], output: &mut [u8]) 
     ensures { (result ≡ derandomize_number place packet.now output.old)
         × (output.new ≡ derandomize_output place packet.now output.old) }
 {
-    let answer = randomizer::derandomize(place, packet, output);
-    answer.number()
+    answer::answered(&randomizer::derandomize(place, packet, output))
 }
 
 // Codes 188 bytes to a block of 204: the number of the answer.
@@ -46,24 +44,24 @@ pub extern "C" fn dvbs_rs_encode(message: &[u8], output: &mut [u8]) -> u8
     ensures { (result ≡ encode_number message.now output.old)
         × (output.new ≡ encode_output message.now output.old) }
 {
-    let answer = reed_solomon::encode(message, output);
-    answer.number()
+    match reed_solomon::encode(message, output) {
+        Ok(()) => 0,
+        Err(refused) => refused.number(),
+    }
 }
 
 // What decoding answered: its number. Where it is 0, the first two bytes of count get the numbers of bytes and bits changed.
-fn put_decoded(decoded: Decoded, count: &mut [u8]) -> u8
+fn put_decoded(decoded: Result<Changed, Refusal>, count: &mut [u8]) -> u8
     requires { 2 ≤ length count.old }
-    ensures { (result ≡ decoded_number decoded) × (count.new ≡ count_after decoded count.old) }
+    ensures { (result ≡ answered decoded) × (count.new ≡ count_after decoded count.old) }
 {
     match decoded {
-        Decoded::Corrected(changed) => {
+        Ok(changed) => {
             count[0] = changed.bytes;
             count[1] = changed.bits;
             0
         }
-        Decoded::Uncorrectable => 8,
-        Decoded::BlockLength => 3,
-        Decoded::MarkValue => 20,
+        Err(refusal) => refusal.number(),
     }
 }
 
@@ -79,8 +77,7 @@ pub extern "C" fn dvbs_rs_decode(block: &mut [u8], count: &mut [u8]) -> u8
     if count.len() < 2 {
         return 4;
     }
-    let decoded = reed_solomon::decode(block);
-    put_decoded(decoded, count)
+    put_decoded(reed_solomon::decode(block), count)
 }
 
 // Decodes a block in place with a mark, 0 or 1, for each byte: the number of the answer. Where it is 0, the first two bytes of count have the
@@ -100,8 +97,7 @@ pub extern "C" fn dvbs_rs_decode_marked(block: &mut [u8], marks: &[u8], count: &
     if count.len() < 2 {
         return 4;
     }
-    let decoded = reed_solomon::decode_marked(block, marks);
-    put_decoded(decoded, count)
+    put_decoded(reed_solomon::decode_marked(block, marks), count)
 }
 
 // Sends a whole list of packets with a fresh sender: the number of symbols written. The first byte of answer has the number of the answer.
@@ -119,30 +115,37 @@ pub extern "C" fn dvbs_send_run(
     if answer.len() < 1 {
         return 0;
     }
-    let run = sender_stream::run::send_run(rate, packets, output);
-    let number = run.answer;
-    answer[0] = number.number();
-    run.count as u64
+    match sender_stream::run::send_run(rate, packets, output) {
+        Ok(run) => {
+            answer[0] = run.number();
+            run.count as u64
+        }
+        Err(refusal) => {
+            answer[0] = refusal.number();
+            0
+        }
+    }
 }
 
 // What a run answered: the number of bytes of packets written. The first byte of answer gets the number of the answer, and where it is 0 the
 // counts go to lent bytes.
-fn put_recorded(recorded: Recorded, counts: &mut [u8], answer: &mut [u8]) -> u64
+fn put_recorded(recorded: Result<Recorded, Refusal>, counts: &mut [u8], answer: &mut [u8]) -> u64
     requires { (64 ≤ length counts.old) × (1 ≤ length answer.old) }
-    ensures { (result ≡ pick (eqb (number_of recorded.answer) 0) recorded.count 0)
-        × (counts.new ≡ pick (eqb (number_of recorded.answer) 0) (count_bytes recorded.receiver.counts ++ drop 64 counts.old) counts.old)
-        × (answer.new ≡ set answer.old 0 (number_of recorded.answer)) }
+    ensures { (result ≡ given_or 0 (λ r. r.count) recorded)
+        × (counts.new ≡ given_or counts.old (λ r. count_bytes r.receiver.counts ++ drop 64 counts.old) recorded)
+        × (answer.new ≡ set answer.old 0 (answered recorded)) }
 {
-    let given = recorded.answer;
-    let number = given.number();
-    answer[0] = number;
-    if number != 0 {
-        return 0;
+    match recorded {
+        Ok(recorded) => {
+            answer[0] = 0;
+            put_counts(recorded.receiver.counts, counts);
+            recorded.count as u64
+        }
+        Err(refused) => {
+            answer[0] = refused.number();
+            0
+        }
     }
-    let last = recorded.receiver;
-    let held = last.counts;
-    put_counts(held, counts);
-    recorded.count as u64
 }
 
 // Takes the whole blocks of a recording with a fresh receiver: the number of bytes of packets written. The counts go to lent bytes, and the
@@ -163,8 +166,7 @@ pub extern "C" fn dvbs_receive_run(
         answer[0] = 4;
         return 0;
     }
-    let recorded = recording::receive_run(blocks, output);
-    put_recorded(recorded, counts, answer)
+    put_recorded(recording::receive_run(blocks, output), counts, answer)
 }
 
 // The same with a mark, 0 or 1, for each byte.
@@ -189,8 +191,11 @@ pub extern "C" fn dvbs_receive_run_marked(
         answer[0] = 4;
         return 0;
     }
-    let recorded = recording::receive_marked_run(blocks, marks, output);
-    put_recorded(recorded, counts, answer)
+    put_recorded(
+        recording::receive_marked_run(blocks, marks, output),
+        counts,
+        answer,
+    )
 }
 
 // Block p of a recording that has so many whole blocks, corrected into the output: the number of the answer. Where it is 0, the first
@@ -207,19 +212,13 @@ pub extern "C" fn dvbs_recording_block(
 {
     if count.len() < 2 {
         // As with no room at all: 5 and 16 come before 4.
-        let mut none = [0u8; 0];
-        let refused = recording::block::decoded_block(recording, blocks, p, &mut none);
-        let answer = refused.answer;
-        return answer.number();
+        let refused = recording::block::decoded_block(recording, blocks, p, &mut []);
+        return put_decoded(refused, &mut [0u8; 2]);
     }
-    let decoded = recording::block::decoded_block(recording, blocks, p, output);
-    let answer = decoded.answer;
-    let number = answer.number();
-    if number == 0 {
-        count[0] = decoded.changed.bytes;
-        count[1] = decoded.changed.bits;
-    }
-    number
+    put_decoded(
+        recording::block::decoded_block(recording, blocks, p, output),
+        count,
+    )
 }
 
 // The list of what to ask for again of a recording, with a mark, 0 or 1, for each byte or none at all: the number of lines written. A line is 16
@@ -236,8 +235,14 @@ pub extern "C" fn dvbs_losses_run(
     if answer.len() < 1 {
         return 0;
     }
-    let listed = losses::list_losses(blocks, marks, lines);
-    let number = listed.answer;
-    answer[0] = number.number();
-    listed.count as u64
+    match losses::list_losses(blocks, marks, lines) {
+        Ok(count) => {
+            answer[0] = 0;
+            count as u64
+        }
+        Err(refusal) => {
+            answer[0] = refusal.number();
+            0
+        }
+    }
 }

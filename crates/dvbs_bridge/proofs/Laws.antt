@@ -13,6 +13,6 @@ pub refusal_keeps : (state block output : List ℕ) (r : ℕ) (after exit : List
     → refuses r ≡ true → (after ≡ state) × (exit ≡ output)
 refusal_keeps state block output r after exit (wrong_length n q a x) f = (a, x)
 refusal_keeps state block output r after exit (no_state n k q a x) f = (a, x)
-refusal_keeps state block output r after exit (as_receiver s h received g q a m) f =
-    let k = refused_same s block output received exit g (sym (ap refuses q) ∙ f) in
+refusal_keeps state block output r after exit (as_receiver s h next g a m) f =
+    let k = refused_same s block output r next exit g f in
     (a ∙ ap state_bytes k.0 ∙ sym h.written, k.1)

@@ -1,11 +1,9 @@
 -- A pass through the bridge is the receiver's own: the same answers, the same packets, and bytes that stand for the same receiver.
 -- Assumes nothing.
-use mathlib.Core.Path.{◌≡◌, sym, subst}
-use mathlib.Core.List.{List, [], ◌∷◌, ◌++◌}
+use mathlib.Core.Path.{◌≡◌, subst}
+use mathlib.Core.List.{List, ◌++◌}
 use Prim.Native.Nat.{ℕ, ◌-◌, ◌≤◌}
-use lib.Dec.{eqb}
 use lib.ListN.{length, take, replicate}
-use Rattle.common.specs.Choice.{pick}
 use Rattle.common.specs.Lists.{All}
 use Rattle.state_bytes.proofs.States.{stands_length, one_state}
 use Rattle.randomizer.specs.Stream.{Packet}
@@ -31,14 +29,11 @@ pub pass_kept : {state last : List ℕ} {blocks : List (List ℕ)} {numbers : Li
 pass_kept s h none = record { last = s; calls = kept.none; stands = h }
 pass_kept s h (call block output r after exit l (wrong_length n q a x) rest) = absurd (n (stands_length reads _ s h))
 pass_kept s h (call block output r after exit l (no_state n f q a x) rest) = absurd (f s h)
-pass_kept s h (call {blocks = blocks} {numbers = numbers} {packets = packets} block output r after exit l (as_receiver t k received g q a m) rest) =
-    let w = pass_kept received.receiver m rest in
-    let own = subst (λ (x : Receiver). Receives x block output received exit) (one_state reads _ t s k h) g in
+pass_kept s h (call {blocks = blocks} {numbers = numbers} {packets = packets} block output r after exit l (as_receiver t k next g a m) rest) =
+    let w = pass_kept next m rest in
     record {
       last = w.last;
-      calls =
-          subst (λ (n : ℕ). Kept s (block ∷ blocks) (n ∷ numbers) (pick (eqb n 0) (take 188 exit ∷ []) [] ++ packets) w.last) (sym q)
-          (kept.call block output exit received l own w.calls);
+      calls = kept.call block output exit r next l (subst (λ (x : Receiver). Receives x block output r next exit) (one_state reads _ t s k h) g) w.calls;
       stands = w.stands;
     }
 

@@ -2,12 +2,10 @@
 -- Assumes nothing.
 use Rattle.std.specs.Prelude.{◌≡◌, Bool, List, ◌++◌, ℕ, ◌≤◌, ◌<◌, eqb, length, get_or, drop}
 use Rattle.common.specs.Choice.{pick}
-use Rattle.answer.specs.Number.{number_of}
 use Rattle.reception_counts.specs.Bytes.{to_bytes, numbers_of}
 use Rattle.receiver.specs.Receive.{fresh_receiver, Receives}
 use Rattle.receiver.specs.Run.{taken_by}
 use Rattle.receiver.specs.declared.Receiver.{Receiver}
-use Rattle.receiver.specs.declared.Received.{Received}
 use Rattle.receiver_state.specs.State.{state_length, state_bytes, StandsFor}
 
 -- ---- a fresh state
@@ -30,8 +28,7 @@ pub data BridgeTakes (state block output : List ℕ) (r : ℕ) (after exit : Lis
   wrong_length : (length state ≡ state_length → ⊥) → r ≡ 22 → after ≡ state → exit ≡ output → BridgeTakes state block output r after exit
   no_state : length state ≡ state_length → ((s : Receiver) → StandsFor state s → ⊥) → r ≡ 5 → after ≡ state → exit ≡ output
       → BridgeTakes state block output r after exit
-  as_receiver : (s : Receiver) → StandsFor state s → (received : Received) → Receives s block output received exit
-      → r ≡ number_of received.answer → after ≡ state_bytes received.receiver → StandsFor after received.receiver
+  as_receiver : (s : Receiver) → StandsFor state s → (next : Receiver) → Receives s block output r next exit → after ≡ state_bytes next → StandsFor after next
       → BridgeTakes state block output r after exit
 
 -- ---- a count

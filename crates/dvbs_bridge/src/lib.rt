@@ -2,27 +2,24 @@
 // Their declarations are in include/dvbs_bridge.h, and docs/BRIDGE.md lists the layout of the state.
 #![tactic(auto)]
 
-ghost use Rattle.std.specs.Prelude.{◌≡◌};
-ghost use Rattle.dvbs_bridge.specs.Calls.{fresh_number, fresh_bytes, refuses, BridgeTakes, BridgeCounts};
+ghost use Rattle.std.specs.Prelude.{◌≡◌, OnErr};
+ghost use Rattle.receiver.specs.Receive.{Receives, taken_number};
+ghost use Rattle.dvbs_bridge.specs.Calls.{fresh_number, fresh_bytes, BridgeTakes, BridgeCounts};
 
-use answer::Answer;
-use receiver::Receiver;
+use answer::Refusal;
+use group_sync::Outcome;
+use receiver::{Receiver, receive_in_place};
 use receiver_state::{COUNTS, STATE_LENGTH, read_state, write_state};
+use reception_counts::outcome_number;
 
-// Whether an answer of the receiver is a refusal: other than 0 and 8 to 11.
-fn is_refusal(number: u8) -> bool
-    ensures { result ≡ refuses number }
+// Takes a block without marks. The receiver is changed in place: a Result that held it would be laid out with zeros in each call.
+fn receive(receiver: &mut Receiver, block: &[u8], output: &mut [u8]) -> Result<Outcome, Refusal>
+    ensures receives { Receives receiver.old block.now output.old (taken_number result) receiver.new output.new }
+    ensures refused { OnErr result (receiver.new ≡ receiver.old) }
 {
-    if number == 0 {
-        return false;
-    }
-    if number < 8 {
-        return true;
-    }
-    if number < 12 {
-        return false;
-    }
-    true
+    let most = common::largest_of(&receiver.marks);
+    let valid = receiver.in_range();
+    receive_in_place(receiver, valid, most == 0, block, &[0u8; 204], output)
 }
 
 // Makes the state of a fresh receiver: the number of the answer.
@@ -32,11 +29,9 @@ pub extern "C" fn dvbs_bridge_fresh(state: &mut [u8]) -> u8
         × (state.new ≡ fresh_bytes state.old) }
 {
     if state.len() != STATE_LENGTH {
-        let answer = Answer::StateLength;
-        return answer.number();
+        return Refusal::StateLength.number();
     }
-    let receiver = Receiver::new();
-    write_state(receiver, state);
+    write_state(Receiver::new(), state);
     0
 }
 
@@ -46,19 +41,16 @@ pub extern "C" fn dvbs_bridge_take(state: &mut [u8], block: &[u8], output: &mut 
     ensures { BridgeTakes state.old block.now output.old result state.new output.new }
 {
     if state.len() != STATE_LENGTH {
-        let answer = Answer::StateLength;
-        return answer.number();
+        return Refusal::StateLength.number();
     }
-    let before = read_state(state);
-    let received = before.receive(block, output);
-    let answer = received.answer;
-    let receiver = received.receiver;
-    let number = answer.number();
-    if is_refusal(number) {
-        return number;
+    let mut receiver = read_state(state);
+    match receive(&mut receiver, block, output) {
+        Ok(outcome) => {
+            write_state(receiver, state);
+            outcome_number(outcome)
+        }
+        Err(refusal) => refusal.number(),
     }
-    write_state(receiver, state);
-    number
 }
 
 // Reads a count by its number: the number of the answer.
@@ -67,21 +59,16 @@ pub extern "C" fn dvbs_bridge_count(state: &[u8], number: u8, output: &mut [u8])
     ensures { BridgeCounts state.now number output.old result output.new }
 {
     if state.len() != STATE_LENGTH {
-        let answer = Answer::StateLength;
-        return answer.number();
+        return Refusal::StateLength.number();
     }
     if number > 7 {
-        let answer = Answer::UnknownCount;
-        return answer.number();
+        return Refusal::UnknownCount.number();
     }
-    let receiver = read_state(state);
-    if !receiver.in_range() {
-        let answer = Answer::StateRange;
-        return answer.number();
+    if !read_state(state).in_range() {
+        return Refusal::StateRange.number();
     }
     if output.len() < 8 {
-        let answer = Answer::OutputLength;
-        return answer.number();
+        return Refusal::OutputLength.number();
     }
     let start = COUNTS + 8 * number as usize;
     let end = start + 8;

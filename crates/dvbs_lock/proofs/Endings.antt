@@ -1,5 +1,6 @@
 -- How a run may end: its files, and what the status says.
 -- Assumes nothing.
+use Rattle.std.specs.Prelude.{Some}
 use mathlib.Core.Path.{◌≡◌, ap, ◌∙◌}
 use mathlib.Core.Bool.{Bool, true, false}
 use mathlib.Core.List.{List, ◌++◌}
@@ -38,7 +39,7 @@ ended : (i : Input) → input_failed i ≡ false → input_over i ≡ true → i
 ended i e h = ap (λ (t : Bool). pick t false (input_over i)) e ∙ h
 
 pub whole_run : {bits : Bool} {rate : ℕ} {input : Input} {output errors o e k v : Output} {s t : LockStream} {rest left : ℕ} {text : List ℕ} {found : Bool}
-    → AllRead bits rate input output errors s rest → input_failed input ≡ false → Ending s true left output errors o e t → Closes o k → output_failed k ≡ false
+    → AllRead bits rate input output errors s rest → input_failed input ≡ false → Ending s (Some left) output errors o e t → Closes o k → output_failed k ≡ false
     → text ≡ closing_text t.source.bits t.progress (came_of t.source) left rest → Writes e text v → output_failed v ≡ false → found ≡ t.progress.found
     → (r : Ended) → r.input ≡ input → r.output ≡ k → r.errors ≡ v → Whole bits rate r found
 whole_run {bits} {input = input} {s = s} {t = t} {rest} {left} {text} {found} a u d c f x w h n r ri ro re =

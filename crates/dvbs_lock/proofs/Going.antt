@@ -1,5 +1,6 @@
 -- Step after step: what was taken, written and told so far, and at the end.
 -- Assumes nothing.
+use Rattle.std.specs.Prelude.{Option, None, is_some, IfSome}
 use mathlib.Core.Path.{◌≡◌, refl, sym, ap, subst, ◌∙◌}
 use mathlib.Core.Bool.{Bool, false}
 use mathlib.Core.List.{List, [], ◌++◌, append_assoc, append-nil}
@@ -87,23 +88,21 @@ looping_more {o = o} {e = e} {numbers = numbers} {at = at} {r = r} l h t w v f g
 
 -- ---- the end
 
-module _ {s next : LockStream} {over : Bool} {left : ℕ} {given told : List ℕ} (t : StreamEnds s over left given told next) where
-  pub end_few : left < 1632
-  end_few = omega (arith, t.left_is, t.source_ends.few)
+module _ {s next : LockStream} {over : Option ℕ} {given told : List ℕ} (t : StreamEnds s over given told next) where
+  pub end_few : IfSome over (λ left. left < 1632)
+  end_few = subst (λ (o : Option ℕ). IfSome o (λ left. left < 1632)) (sym t.over_is) t.source_ends.few
 
-  pub end_less : over ≡ false → ends_ahead next.source < ends_ahead s.source
-  end_less o = let g = t.source_ends.goes (sym t.over_is ∙ o) in rw t.source_is g
+  pub end_less : over ≡ None → ends_ahead next.source < ends_ahead s.source
+  end_less o = let g = t.source_ends.goes (ap (λ (x : Option ℕ). is_some x) (sym t.over_is ∙ o)) in rw t.source_is g
 
 pub record Ended-so-far (output₀ errors₀ : Output) (s₀ : LockStream) (output errors : Output) (s : LockStream) : Type 0 where
-  pub left : ℕ
-  pub so_far : Ending s₀ false left output₀ errors₀ output errors s
+  pub so_far : Ending s₀ None output₀ errors₀ output errors s
   pub output_is : output_file output ≡ output_file output₀
   pub errors_are : output_file errors ≡ output_file errors₀
   pub ready : StreamReady s
 
 pub ended_none : (output errors : Output) (s : LockStream) → StreamReady s → Ended-so-far output errors s output errors s
 ended_none output errors s r = record {
-  left = 0;
   so_far = record { packets = []; text = []; ends = ending; written = refl; told = refl };
   output_is = refl;
   errors_are = refl;
@@ -112,13 +111,13 @@ ended_none output errors s r = record {
 
 pub ended_more : {output₀ errors₀ output errors o e : Output} {s₀ s : LockStream} {pk tx : List ℕ} {r : StreamEnd} → Ended-so-far output₀ errors₀ s₀ output errors s → EndsStream s r pk tx
     → Writes output (take r.packets pk) o → Writes errors (take r.text tx) e → output_failed o ≡ false → output_failed e ≡ false
-    → Ending s₀ r.over r.left output₀ errors₀ o e r.stream
+    → Ending s₀ r.over output₀ errors₀ o e r.stream
 ended_more {output₀} {errors₀} {pk = pk} {tx} {r} l t w v f g =
     let x = l.so_far in
     record {
       packets = x.packets ++ take r.packets pk;
       text = x.text ++ take r.text tx;
-      ends = ended r.over r.left (take r.packets pk) (take r.text tx) x.ends t.ends;
+      ends = ended r.over (take r.packets pk) (take r.text tx) x.ends t.ends;
       written = w.whole f ∙ ap (λ (y : Trace). traced y (take r.packets pk)) x.written ∙ sym (traced_more (output_trace output₀) x.packets (take r.packets pk));
       told = v.whole g ∙ ap (λ (y : Trace). traced y (take r.text tx)) x.told ∙ sym (traced_more (output_trace errors₀) x.text (take r.text tx));
     }

@@ -8,7 +8,7 @@ use native.Mathlib.Omega.{arith}
 use lib.ListN.{length}
 use Rattle.common.specs.Lists.{All}
 use Rattle.branch_metrics.specs.SoftPairs.{symbol_pair}
-use Rattle.branch_metrics.specs.declared.soft_decision.ReceivedSymbol.{ReceivedSymbol}
+use Rattle.branch_metrics.specs.Cost.{ReceivedSymbol}
 use Rattle.branch_metrics.proofs.Numbers.{symbol_lt}
 use Rattle.convolutional_code.specs.Bits.{bits_of, Bits, none, more}
 use Rattle.convolutional_code.proofs.Bits.{length_bits, bits_bits, bits_split}

@@ -1,7 +1,7 @@
 -- How dvbs_lock may end, and what its status then says. The files are values of program_io, which its reads and writes alone make.
 -- Clauses: document 02, P1, P5, P7 and P8; docs/ACQUISITION.md.
 -- Assumes nothing.
-use Rattle.std.specs.Prelude.{◌≡◌, Bool, true, false, List, [], ◌∷◌, ◌++◌, ℕ, ◌+◌, ◌≤◌, ◌<◌, eqb, ltb, ℤ, pos, length}
+use Rattle.std.specs.Prelude.{◌≡◌, Bool, true, false, List, [], ◌∷◌, ◌++◌, ℕ, ◌+◌, ◌≤◌, ◌<◌, eqb, ltb, ℤ, pos, length, Option, Some, None, IfSome}
 use Rattle.common.specs.Choice.{pick}
 use Rattle.program_io.specs.Checksum.{no_bytes, traced}
 use Rattle.program_io.specs.Files.{StandardFiles, input_trace, input_over, input_ended, input_failed, output_file, output_trace, output_failed, output_closed}
@@ -19,6 +19,8 @@ use Rattle.lock_stream.specs.Source.{came_of}
 use Rattle.lock_stream.specs.Stream.{StreamReady, LockSteps, LockEnds}
 use Rattle.lock_stream.specs.declared.LockStream.{LockStream}
 use Rattle.dvbs_lock.specs.Numbers.{numbers_of, rest_bytes}
+use Rattle.dvbs_lock.specs.declared.Source.{Source}
+use Rattle.dvbs_lock.specs.declared.Source.TheVariants.{Rate, AnyRate, Bits}
 use Rattle.dvbs_lock.specs.declared.NumbersTaken.{NumbersTaken}
 use Rattle.dvbs_lock.specs.declared.LocksFinished.{LocksFinished}
 
@@ -48,6 +50,13 @@ rate_of mode = pick (ltb mode 5) mode 7
 abbrev pub source_asked : ℕ → List ℕ → ℕ
 source_asked count word = pick (eqb count 1) (pick (same_bytes word any_word) 5 (pick (same_bytes word bits_word) 6 (rate_of (mode_named word)))) 7
 
+-- what is asked for, where this is its number
+abbrev pub Asks : Option Source → ℕ → Type 0
+Asks None n = n ≡ 7
+Asks (Some (Rate rate)) n = (rate < 5) × (rate ≡ n)
+Asks (Some AnyRate) n = n ≡ 5
+Asks (Some Bits) n = n ≡ 6
+
 -- ---- numbers that are taken
 
 -- These numbers were taken, and what they gave and told was written.
@@ -75,20 +84,20 @@ pub record Takes (output errors : Output) (s : LockStream) (numbers : List ℕ) 
 -- ---- the end of the numbers
 
 -- What the end gave and told was written behind the rest.
-pub record Ending (s : LockStream) (over : Bool) (left : ℕ) (before-output before-errors output errors : Output) (t : LockStream) : Type 0 where
+pub record Ending (s : LockStream) (over : Option ℕ) (before-output before-errors output errors : Output) (t : LockStream) : Type 0 where
   pub packets : List ℕ
   pub text : List ℕ
-  pub ends : LockEnds s over left packets text t
+  pub ends : LockEnds s over packets text t
   pub written : output_trace output ≡ traced (output_trace before-output) packets
   pub told : output_trace errors ≡ traced (output_trace before-errors) text
 
 pub record Finishes (output errors : Output) (s : LockStream) (r : LocksFinished) : Type 0 where
   pub output_is : output_file r.output ≡ output_file output
   pub errors_are : output_file r.errors ≡ output_file errors
-  pub stops : r.failed ≡ true → Stops r.output r.errors
+  pub stops : r.left ≡ None → Stops r.output r.errors
   pub ready : StreamReady r.stream
-  pub few : r.left < 1632
-  pub ending : r.failed ≡ false → Ending s true r.left output errors r.output r.errors r.stream
+  pub few : IfSome r.left (λ left. left < 1632)
+  pub ending : (left : ℕ) → r.left ≡ Some left → Ending s (Some left) output errors r.output r.errors r.stream
 
 -- ---- all of the input
 
@@ -120,7 +129,7 @@ pub record Whole (bits : Bool) (rate : ℕ) (r : Ended) (found : Bool) : Type 0 
   pub read : input_trace r.input ≡ traced no_bytes bytes
   pub ended : input_ended r.input ≡ true
   pub steps : LockSteps bits rate (numbers_of bits bytes) packets text stream
-  pub ends : LockEnds stream true left last_packets last_text last
+  pub ends : LockEnds stream (Some left) last_packets last_text last
   pub found_is : found ≡ last.progress.found
   pub written : output_trace r.output ≡ traced no_bytes (packets ++ last_packets)
   pub closed : output_closed r.output ≡ true

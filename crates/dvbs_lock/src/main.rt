@@ -10,9 +10,11 @@ ghost use Rattle.common.specs.Lists.{All};
 ghost use Rattle.lock_stream.specs.Source.{came_of};
 ghost use Rattle.lock_stream.specs.Stream.{StreamReady};
 ghost use Rattle.program_io.specs.Files.{StandardFiles, StandardInput, FreshOutput};
-ghost use Rattle.program_io.specs.Words.{argument_count, word_bytes};
+ghost use Rattle.program_io.specs.Calls.{asked_of};
+ghost use Rattle.program_io.specs.Words.{argument_count, word_argument, word_bytes};
+ghost use Rattle.program_io.specs.declared.calls.Asked.TheVariants.{Work};
 ghost use Rattle.dvbs_lock.specs.Numbers.{rest_bytes};
-ghost use Rattle.dvbs_lock.specs.Ends.{source_asked, status_of, Takes, Finishes, AllRead, TooMuch, Ends, Runs, Exits};
+ghost use Rattle.dvbs_lock.specs.Ends.{source_asked, Asks, status_of, Takes, Finishes, AllRead, TooMuch, Ends, Runs, Exits};
 
 use lock_stream::LockStream;
 use lock_stream::progress::LockProgress;
@@ -21,7 +23,15 @@ use std::process::ExitCode;
 
 mod numbers;
 
-// What numbers came to.
+// What is asked for: points at a rate, or at any of the five, or bits.
+#[derive(Clone, Copy)]
+enum Source {
+    Rate(u8),
+    AnyRate,
+    Bits,
+}
+
+// What numbers came to. The flag is beside the files and not in a Result: the files are handed on where it failed too.
 #[derive(Clone, Copy)]
 struct NumbersTaken {
     failed: bool,
@@ -30,14 +40,13 @@ struct NumbersTaken {
     stream: LockStream,
 }
 
-// What the end came to, and how many bits are behind the last block of a lock that lasts.
+// What the end came to, and how many bits are behind the last block of a lock that lasts; none where a write failed.
 #[derive(Clone, Copy)]
 struct LocksFinished {
-    failed: bool,
+    left: Option<usize>,
     output: Output,
     errors: Output,
     stream: LockStream,
-    left: usize,
 }
 
 // The most points or bits that can be counted.
@@ -64,6 +73,7 @@ fn take_numbers(
     let mut errors = errors;
     let mut stream = stream;
     let mut at: usize = 0;
+    // A `while`: it goes on by as many as a step took.
     while at < numbers.len() {
         let step = stream.step(&numbers[at..], packets, text);
         let given = step.packets;
@@ -112,45 +122,47 @@ fn finish_stream(
     let mut output = output;
     let mut errors = errors;
     let mut stream = stream;
+    // A `loop`: step after step, until one is the last.
     loop {
         let end = stream.end_step(packets, text);
         let given = end.packets;
         let told = end.text;
         let over = end.over;
-        let left = end.left;
         stream = end.stream;
         output = output.write(system, b"standard output", &packets[..given]);
         errors = errors.write(system, b"standard error", &text[..told]);
         if output.failed() {
             return LocksFinished {
-                failed: true,
+                left: None,
                 output,
                 errors,
                 stream,
-                left,
             };
         }
         if errors.failed() {
             return LocksFinished {
-                failed: true,
+                left: None,
                 output,
                 errors,
                 stream,
-                left,
             };
         }
-        if over {
-            return LocksFinished {
-                failed: false,
-                output,
-                errors,
-                stream,
-                left,
-            };
+        match over {
+            Some(left) => {
+                return LocksFinished {
+                    left: Some(left),
+                    output,
+                    errors,
+                    stream,
+                };
+            }
+            None => {}
         }
     }
 }
 
+// The input, the outputs and the stream are values that go on by themselves from call to call, so that tests/programs.sh can follow each file: they are no
+// struct. Whether it is bits, and the rate, are what the contracts of lock_stream speak of.
 // The end of the input, with so many bytes behind the last whole point: writes what is left, closes standard output and tells the last lines. Where a read
 // failed, it does nothing of that.
 fn finish(
@@ -177,19 +189,17 @@ fn finish(
         };
     }
     let finished = finish_stream(system, output, errors, stream, packets, text);
-    let failed = finished.failed;
-    let left = finished.left;
     let output = finished.output;
     let errors = finished.errors;
     let stream = finished.stream;
-    if failed {
+    let Some(left) = finished.left else {
         return Ended {
             status: 1,
             input,
             output,
             errors,
         };
-    }
+    };
     let output = output.close(system, b"standard output");
     if output.failed() {
         return Ended {
@@ -279,6 +289,7 @@ fn lock_all(
     let mut errors = errors;
     let mut stream = LockStream::new(bits, rate);
     let mut came: u64 = 0;
+    // A `while`: it reads until the input ends, and counts what came.
     while came <= MOST {
         let read = crate::numbers::read_numbers(
             system,
@@ -343,24 +354,40 @@ fn run(system: &mut System, bits: bool, rate: u8) -> i32
     ended.status
 }
 
-// What the only argument asks for: a rate, 0 to 4, or 5 for any, or 6 for bits; 7 where it is none of these.
-fn source_asked(arguments: Arguments, word: Word) -> u8
-    ensures { result ≡ source_asked (argument_count arguments) (word_bytes word) }
+// What the only argument asks for.
+fn source_asked(arguments: Arguments, word: Word) -> Option<Source>
+    ensures { Asks result (source_asked (argument_count arguments) (word_bytes word)) }
 {
     if arguments.count() != 1 {
-        return 7;
+        return None;
     }
     if word.is(b"any") {
-        return 5;
+        return Some(Source::AnyRate);
     }
     if word.is(b"bits") {
-        return 6;
+        return Some(Source::Bits);
     }
-    let mode = rate_words::mode_of(word);
+    let mode = rate_words::mode_of(word)?;
     if mode < 5 {
-        return mode;
+        return Some(Source::Rate(mode));
     }
-    7
+    None
+}
+
+// Takes what is asked for, or tells that nothing is.
+fn work(system: &mut System, arguments: Arguments, word: Word) -> i32
+    requires { (word_argument word ≡ 1) × (asked_of (argument_count arguments) (word_bytes word) ≡ Work) }
+    ensures { Exits result }
+{
+    match source_asked(arguments, word) {
+        Some(Source::Rate(rate)) => run(system, false, rate),
+        Some(Source::AnyRate) => run(system, false, 5),
+        Some(Source::Bits) => run(system, true, 5),
+        None => {
+            let answered = program_io::wrong(system, b"usage: dvbs_lock RATE < points > packets\n");
+            answered.status
+        }
+    }
 }
 
 pub fn dvbs_lock_main(system: &mut System) -> i32
@@ -378,17 +405,7 @@ pub fn dvbs_lock_main(system: &mut System) -> i32
             let answered = program_io::version(system, b"dvbs_lock");
             answered.status
         }
-        Asked::Work => {
-            let source = source_asked(arguments, word);
-            if source < 6 {
-                return run(system, false, source);
-            }
-            if source == 6 {
-                return run(system, true, 5);
-            }
-            let answered = program_io::wrong(system, b"usage: dvbs_lock RATE < points > packets\n");
-            answered.status
-        }
+        Asked::Work => work(system, arguments, word),
     }
 }
 

@@ -48,10 +48,8 @@ fn put_bits(bytes: &[u8], output: &mut [u8])
     requires { 8 * length bytes.now ≤ length output.old }
     ensures { take (8 * length bytes.now) output.new ≡ bits_of bytes.now }
 {
-    let mut k: usize = 0;
-    while k < bytes.len() {
-        put_byte(bytes[k], 8 * k, output);
-        k += 1;
+    for (k, byte) in bytes.iter().enumerate() {
+        put_byte(*byte, 8 * k, output);
     }
 }
 

@@ -1,5 +1,6 @@
 -- A step of the library's stream on the state that is read, and its bytes after it, are what a call on the bytes promises.
 -- Assumes nothing.
+use Rattle.std.specs.Prelude.{Option, Some, is_some}
 use mathlib.Core.Path.{◌≡◌, refl, sym, ap, subst, ◌∙◌}
 use mathlib.Core.Bool.{Bool, true, false}
 use mathlib.Core.List.{List, [], map}
@@ -10,6 +11,7 @@ use lib.Dec.{ltb}
 use lib.Ieee.{Float, nan}
 use lib.ListN.{length, get_or, set, take, length-take, length-map}
 use lib.Seq.{length-take-le, ext_get_or, get_or-take}
+use Rattle.std.specs.Prelude.{None}
 use Rattle.common.specs.Choice.{pick, indicator}
 use Rattle.common.specs.Lists.{All, ByteEntries}
 use Rattle.common.proofs.Choice.{false_true}
@@ -18,7 +20,6 @@ use Rattle.state_bytes.specs.Calls.{CallsOn, no_state, as_own}
 use Rattle.state_bytes.proofs.States.{stands_read, none_stands}
 use Rattle.branch_metrics.specs.Cost.{received, received_of}
 use Rattle.branch_metrics.specs.SoftPairs.{symbol_pair, symbol_at}
-use Rattle.branch_metrics.specs.declared.soft_decision.ReceivedSymbol.TheVariants.{Lost as LostSymbol}
 use Rattle.branch_metrics.proofs.Runs.{length_received, received_at, along_small}
 use Rattle.reader.specs.Read.{sound}
 use Rattle.reader.proofs.SoftDecisions.{OneLength, sound_lists}
@@ -27,15 +28,15 @@ use Rattle.acquisition.specs.Step.{fresh_acquisition}
 use Rattle.acquisition.specs.End.{EndsAcquisition, no_reading, pending_end, runs_end, blocks_end, end_of_blocks}
 use Rattle.acquisition.specs.declared.Acquisition.{Acquisition}
 use Rattle.acquisition.specs.declared.EndStep.{EndStep}
-use Rattle.acquisition.specs.declared.Event as acquisition
+use Rattle.acquisition.specs.declared.Event.{Event}
 use Rattle.acquisition.specs.declared.Event.TheVariants.{Waits, Block, Lost}
 use Rattle.acquisition_state.specs.State.{Writable}
 use Rattle.acquisition_state.proofs.Ranges.{Left, left_writable}
 use Rattle.acquisition_state.proofs.Steps.{searching_left, searching_cleared}
 use Rattle.lock_receiver.specs.Take.{fresh_lock}
-use Rattle.lock_stream.specs.Progress.{closing_text, fresh_progress, Event, waits, Tells, nothing_told, lock_begins, lock_goes_on, lock_ends}
+use Rattle.lock_stream.specs.Progress.{closing_text, fresh_progress, Tells, nothing_told, lock_begins, lock_goes_on, lock_ends}
 use Rattle.lock_stream.specs.Source.{came_of, fresh_source, UsedReady, SourceEnds, symbols_end, bits_end_lem}
-use Rattle.lock_stream.specs.Stream.{event_of, fresh_stream, StreamReady, StepsStream, StreamEnds, EndsStream}
+use Rattle.lock_stream.specs.Stream.{fresh_stream, StreamReady, StepsStream, StreamEnds, EndsStream}
 use Rattle.lock_stream.specs.declared.LockStream.{LockStream}
 use Rattle.lock_stream.specs.declared.StreamStep.{StreamStep}
 use Rattle.lock_stream.specs.declared.StreamEnd.{StreamEnd}
@@ -118,26 +119,26 @@ module _ (is qs : List Float) (lost : List ℕ) (o : OneLength is qs lost) (n : 
       ∙ w i (omega (arith, front_length))
       ∙ ap symbol_pair (λ j. received (get_or-take n is i nan c j) (get_or-take n qs i nan c j) (get_or-take n lost i 0 c j))
       ∙ ap symbol_pair (sym (received_at is qs lost o.qs_size o.lost_size i (omega arith)))
-      ∙ sym (get_or-take 1632 all i 0 (omega arith) ∙ get_d_map_in symbol_pair rs LostSymbol 0 i (omega arith)))
+      ∙ sym (get_or-take 1632 all i 0 (omega arith) ∙ get_d_map_in symbol_pair rs None 0 i (omega arith)))
 
 -- ---- the last step of the end
 
-over_waits : {s : Acquisition} {t : EndStep} → EndsAcquisition s t → t.over ≡ true → t.event ≡ Waits
+over_waits : {s : Acquisition} {t : EndStep} → EndsAcquisition s t → is_some t.over ≡ true → t.event ≡ Waits
 over_waits (no_reading e q) o = ap (λ (t : EndStep). t.event) q
-over_waits (pending_end e h p) o = false_true (sym (ap (λ (t : EndStep). t.over) p.result) ∙ o)
-over_waits (runs_end e h n p) o = false_true (sym (ap (λ (t : EndStep). t.over) p.result) ∙ o)
-over_waits {s} {t} (blocks_end e h n p) o = ap (λ (t : EndStep). t.event) p.result ∙ by p.step.event (sym (ap (λ (t : EndStep). t.over) p.result) ∙ o)
+over_waits (pending_end e h p) o = false_true (sym (ap (λ (t : EndStep). is_some t.over) p.result) ∙ o)
+over_waits (runs_end e h n p) o = false_true (sym (ap (λ (t : EndStep). is_some t.over) p.result) ∙ o)
+over_waits {s} {t} (blocks_end e h n p) o = ap (λ (t : EndStep). t.event) p.result ∙ by p.step.event (sym (ap (λ (t : EndStep). is_some t.over) p.result) ∙ o)
   where
-    by : (v : acquisition.Event) → (end_of_blocks s p.step v).over ≡ true → (end_of_blocks s p.step v).event ≡ Waits
+    by : (v : Event) → is_some (end_of_blocks s p.step v).over ≡ true → (end_of_blocks s p.step v).event ≡ Waits
     by Waits o = refl
-    by Block o = false_true o
+    by (Block b) o = false_true o
     by Lost o = false_true o
 
-source_waits : {s : LockSource} {t : SourceEnd} → s.bits ≡ false → SourceEnds s t → t.over ≡ true → t.event ≡ Waits
-source_waits c (symbols_end e a x q) o = ap (λ (t : SourceEnd). t.event) q ∙ over_waits x (sym (ap (λ (t : SourceEnd). t.over) q) ∙ o)
+source_waits : {s : LockSource} {t : SourceEnd} → s.bits ≡ false → SourceEnds s t → is_some t.over ≡ true → t.event ≡ Waits
+source_waits c (symbols_end e a x q) o = ap (λ (t : SourceEnd). t.event) q ∙ over_waits x (sym (ap (λ (t : SourceEnd). is_some t.over) q) ∙ o)
 source_waits c (bits_end_lem e a x q) o = false_true (sym c ∙ e)
 
-tells_nothing : {bits : Bool} {p next : LockProgress} {packets text : List ℕ} {e : Event} → e ≡ waits → Tells bits p packets text next e → text ≡ []
+tells_nothing : {bits : Bool} {p next : LockProgress} {packets text : List ℕ} {e : Event} → e ≡ Waits → Tells bits p packets text next e → text ≡ []
 tells_nothing w (nothing_told a b q) = b
 tells_nothing w (lock_begins b lines v k t x q) = let z : ◌≡◌ {A = ℕ} 0 1 = cc in absurd (omega arith)
 tells_nothing w (lock_goes_on b lines v k t x q) = let z : ◌≡◌ {A = ℕ} 0 1 = cc in absurd (omega arith)
@@ -147,11 +148,11 @@ none_long : (n : ℕ) (l : List ℕ) → n ≤ length l → take n l ≡ [] → 
 none_long n l h e = omega (arith, length-take-le n l h, ap length e)
 
 -- no line of an event is told with the closing lines
-pub over_silent : {s : LockStream} {r : StreamEnd} {packets text : List ℕ} → s.source.bits ≡ false → EndsStream s r packets text → 2048 ≤ length text → r.over ≡ true → r.text ≡ 0
+pub over_silent : {s : LockStream} {r : StreamEnd} {packets text : List ℕ} → s.source.bits ≡ false → EndsStream s r packets text → 2048 ≤ length text → is_some r.over ≡ true → r.text ≡ 0
 over_silent {s} {r} {packets} {text} c h room o =
     let k = h.ends in
-    let w = source_waits c k.source_ends.ends (sym k.over_is ∙ o) in
-    none_long r.text text (omega (arith, h.text_fits)) (tells_nothing (ap (λ (v : acquisition.Event). event_of v k.end.block) w) k.tells)
+    let w = source_waits c k.source_ends.ends (sym (ap (λ (x : Option ℕ). is_some x) k.over_is) ∙ o) in
+    none_long r.text text (omega (arith, h.text_fits)) (tells_nothing w k.tells)
 
 -- ---- what the work of a call leaves
 
@@ -171,8 +172,8 @@ module _ (s : LockStream) (z : Sized s) (k : in_range s ≡ true) (packets text 
   module _ (rest : ℕ) (due : end_due (short_room (length packets) (length text) (length counts)) ≡ 0) where
     -- where these are the lines of the event, or the closing lines
     pub end_leaves : (r : StreamEnd) (event : List ℕ) (size : ℕ) → EndsStream s r front event → 2048 ≤ length event → NextSized r.stream → after ≡ state_bytes (cleared r.stream)
-        → ClosesLines r.stream r.over r.left rest r.text event size lines → GivesTold packets text counts (take r.packets front) (take size lines) given told tally
-        → LeavesEnd rest s packets text counts (indicator r.over) after given told tally
+        → ClosesLines r.stream r.over rest r.text event size lines → GivesTold packets text counts (take r.packets front) (take size lines) given told tally
+        → LeavesEnd rest s packets text counts (indicator (is_some r.over)) after given told tally
     end_leaves r event size h room m w c g =
         let few = few_waiting r.stream.progress.receiver h.ready.receiver in
         record {
@@ -182,20 +183,20 @@ module _ (s : LockStream) (z : Sized s) (k : in_range s ≡ true) (packets text 
           stands = subst (λ (bytes : List ℕ). StandsFor bytes (cleared r.stream)) (sym w) (stands_cleared r.stream h.ready (end_come s z k r h) (end_left s z k r h) m);
         }
       where
-        own : StreamEnds s r.over r.left (take r.packets front) (take r.text event) (cleared r.stream)
+        own : StreamEnds s r.over (take r.packets front) (take r.text event) (cleared r.stream)
         own = (end_cleared s z k r h m.packets (few_waiting r.stream.progress.receiver h.ready.receiver)).ends
 
-        by : ClosesLines r.stream r.over r.left rest r.text event size lines → StepsEnd rest s (indicator r.over) (take r.packets front) (take size lines) (cleared r.stream)
+        by : ClosesLines r.stream r.over rest r.text event size lines → StepsEnd rest s (indicator (is_some r.over)) (take r.packets front) (take size lines) (cleared r.stream)
         by (not_over o e q) =
-            goes_on r.left (ap indicator o)
-            (subst (λ (l : List ℕ). StreamEnds s false r.left (take r.packets front) l (cleared r.stream)) (λ i. take (sym e i) (sym q i))
-            (subst (λ (b : Bool). StreamEnds s b r.left (take r.packets front) (take r.text event) (cleared r.stream)) o own))
-        by (closed o fits long q) =
-            let silent : take r.text event ≡ [] = ap (λ (n : ℕ). take n event) (over_silent (ranges s k).symbols_come h room o) in
-            ended r.left (ap indicator o)
-            (subst (λ (l : List ℕ). StreamEnds s true r.left (take r.packets front) l (cleared r.stream)) silent
-            (subst (λ (b : Bool). StreamEnds s b r.left (take r.packets front) (take r.text event) (cleared r.stream)) o own))
-            (q ∙ ap (λ (b : Bool). closing_text b r.stream.progress (came_of r.stream.source) r.left rest) (end_come s z k r h))
+            goes_on (ap (λ (x : Option ℕ). indicator (is_some x)) o)
+            (subst (λ (l : List ℕ). StreamEnds s None (take r.packets front) l (cleared r.stream)) (λ i. take (sym e i) (sym q i))
+            (subst (λ (b : Option ℕ). StreamEnds s b (take r.packets front) (take r.text event) (cleared r.stream)) o own))
+        by (closed left o fits long q) =
+            let silent : take r.text event ≡ [] = ap (λ (n : ℕ). take n event) (over_silent (ranges s k).symbols_come h room (ap (λ (x : Option ℕ). is_some x) o)) in
+            ended left (ap (λ (x : Option ℕ). indicator (is_some x)) o)
+            (subst (λ (l : List ℕ). StreamEnds s (Some left) (take r.packets front) l (cleared r.stream)) silent
+            (subst (λ (b : Option ℕ). StreamEnds s b (take r.packets front) (take r.text event) (cleared r.stream)) o own))
+            (q ∙ ap (λ (b : Bool). closing_text b r.stream.progress (came_of r.stream.source) left rest) (end_come s z k r h))
 
 -- ---- the calls
 

@@ -1,8 +1,9 @@
 -- Points fed through the bytes of a state are taken as by the library's own stream of locks, and the end is its own: the same packets and text, and bytes that stand for
 -- the same lock.
 -- Assumes nothing.
+use Rattle.std.specs.Prelude.{Option, Some, None}
 use mathlib.Core.Path.{◌≡◌, refl, sym, ◌∙◌, ap, subst}
-use mathlib.Core.Bool.{Bool, true, false}
+use mathlib.Core.Bool.{Bool, false}
 use mathlib.Core.List.{List, [], ◌++◌, map, append-nil}
 use Prim.Native.Nat.{ℕ, ◌+◌, ◌≤◌, ◌<◌}
 use Prim.{tt}
@@ -107,8 +108,8 @@ module _ (rate : ℕ) {came packets text : List ℕ} {s : LockStream} (before : 
 
 -- The library's own end, with these packets and this text: the closing lines stand behind the others where it is over.
 pub data EndsAsOwn (s : LockStream) (rest : ℕ) : ℕ → List ℕ → List ℕ → LockStream → Type 0 where
-  goes_on_so : {packets text : List ℕ} {last : LockStream} (over left : ℕ) → over ≡ 0 → LockEnds s false left packets text last → EndsAsOwn s rest over packets text last
-  over_so : {packets lines text : List ℕ} {last : LockStream} (over left : ℕ) → over ≡ 1 → LockEnds s true left packets lines last
+  goes_on_so : {packets text : List ℕ} {last : LockStream} (over : ℕ) → over ≡ 0 → LockEnds s None packets text last → EndsAsOwn s rest over packets text last
+  over_so : {packets lines text : List ℕ} {last : LockStream} (over left : ℕ) → over ≡ 1 → LockEnds s (Some left) packets lines last
       → text ≡ lines ++ closing_text false last.progress (came_of last.source) left rest → EndsAsOwn s rest over packets text last
 
 -- it, and a stream after it for which these bytes stand
@@ -117,20 +118,20 @@ pub record AsEnded (s : LockStream) (rest over : ℕ) (packets text state : List
   pub ends : EndsAsOwn s rest over packets text last
   pub stands : StandsFor state last
 
-same_ends : {s last : LockStream} {over : Bool} {left : ℕ} {p p' t t' : List ℕ} → p ≡ p' → t ≡ t' → LockEnds s over left p t last → LockEnds s over left p' t' last
-same_ends {s} {last} {over} {left} {p} {p'} {t} {t'} a b h = subst (λ (x : List ℕ × List ℕ). LockEnds s over left x.0 x.1 last) (λ i. (a i, b i)) h
+same_ends : {s last : LockStream} {over : Option ℕ} {p p' t t' : List ℕ} → p ≡ p' → t ≡ t' → LockEnds s over p t last → LockEnds s over p' t' last
+same_ends {s} {last} {over} {p} {p'} {t} {t'} a b h = subst (λ (x : List ℕ × List ℕ). LockEnds s over x.0 x.1 last) (λ i. (a i, b i)) h
 
 end_lent : (packets text counts : ℕ) → end_due (short_room packets text counts) ≡ 0 → 2 ≤ counts
 end_lent packets text counts e = (room_enough packets text counts (end_pass (short_room packets text counts) e)).2
 
-module _ (s : LockStream) (rest : ℕ) {packets text : List ℕ} {t : LockStream} {left : ℕ} (before : LockEnds s false left packets text t) (room space counts : List ℕ) (r : ℕ) (given told tally said : List ℕ) where
+module _ (s : LockStream) (rest : ℕ) {packets text : List ℕ} {t : LockStream} (before : LockEnds s None packets text t) (room space counts : List ℕ) (r : ℕ) (given told tally said : List ℕ) where
   abbrev EndNext : LockStream → Type 0
   EndNext next = EndsAsOwn s rest r (packets ++ written_in said (get_or tally 0 0) given) (text ++ written_in said (get_or tally 1 0) told) next
 
   end_one : (next : LockStream) → EndsPairs rest room space counts t (get_or said 0 0) r next given told tally → EndNext next
   end_one next (refused_end e some nil same a b c) =
       let z = none_written room space counts given told tally said (λ q. absurd (omega arith)) in
-      subst EndNext (sym same) (goes_on_so r left nil (same_ends (nothing_more packets _ (z (get_or tally 0 0) given)) (nothing_more text _ (z (get_or tally 1 0) told)) before))
+      subst EndNext (sym same) (goes_on_so r nil (same_ends (nothing_more packets _ (z (get_or tally 0 0) given)) (nothing_more text _ (z (get_or tally 1 0) told)) before))
   end_one next (end_stepped due zero front lines k g) = by k
     where
       lent : 2 ≤ length counts
@@ -143,12 +144,12 @@ module _ (s : LockStream) (rest : ℕ) {packets text : List ℕ} {t : LockStream
       texts = lines_written room space counts given told tally said zero lent front lines g
 
       by : StepsEnd rest t r front lines next → EndNext next
-      by (goes_on last nil e) = goes_on_so r last nil (same_ends fronts (ap (λ (l : List ℕ). text ++ l) (sym texts)) (stream.ended false last front lines before e))
+      by (goes_on nil e) = goes_on_so r nil (same_ends fronts (ap (λ (l : List ℕ). text ++ l) (sym texts)) (stream.ended None front lines before e))
       by (ended last one e q) =
-          over_so r last one (same_ends fronts (append-nil text) (stream.ended true last front [] before e)) (ap (λ (l : List ℕ). text ++ l) (texts ∙ q))
+          over_so r last one (same_ends fronts (append-nil text) (stream.ended (Some last) front [] before e)) (ap (λ (l : List ℕ). text ++ l) (texts ∙ q))
 
 pub pass_ended : {start : List ℕ} {rest : ℕ} {packets text state : List ℕ} {over : ℕ} (s : LockStream) → StandsFor start s → LockEnd start rest over packets text state → AsEnded s rest over packets text state
-pass_ended s h not_begun = record { last = s; ends = goes_on_so 0 0 refl stream.ending; stands = h }
+pass_ended s h not_begun = record { last = s; ends = goes_on_so 0 refl stream.ending; stands = h }
 pass_ended {start} {rest = rest} s h (end_call {packets} {text} {state} room space counts answer r after given told tally said p one f) =
     let w = pass_ended s h p in
     let o = own_call reads w.last w.stands one f in
@@ -156,7 +157,7 @@ pass_ended {start} {rest = rest} s h (end_call {packets} {text} {state} room spa
   where
     by : {t next : LockStream} → EndsAsOwn s rest 0 packets text t → EndsPairs rest room space counts t (get_or said 0 0) r next given told tally
         → EndsAsOwn s rest r (packets ++ written_in said (get_or tally 0 0) given) (text ++ written_in said (get_or tally 1 0) told) next
-    by {t} {next} (goes_on_so over left z e) own = end_one s rest e room space counts r given told tally said next own
+    by {t} {next} (goes_on_so over z e) own = end_one s rest e room space counts r given told tally said next own
     by (over_so over left z e q) own = absurd (omega arith)
 
 -- ---- a fresh state

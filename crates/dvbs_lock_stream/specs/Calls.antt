@@ -1,7 +1,7 @@
 -- What the functions for a lock in C give. Of points this is said by the promise of a step of the library's own stream on the decisions on them, and so is the end.
 -- Clauses: EN 300 421, 4.4.2 and 4.4.3, note 1 (source document 002); document 02, P8.
 -- Assumes nothing.
-use Rattle.std.specs.Prelude.{◌≡◌, Bool, true, false, List, [], ◌∷◌, map, ℕ, ◌<◌, ◌≤◌, eqb, ltb, Float, length, take, set}
+use Rattle.std.specs.Prelude.{◌≡◌, Bool, true, false, List, [], ◌∷◌, map, ℕ, ◌<◌, ◌≤◌, eqb, ltb, Float, length, take, set, Option, Some, None}
 use Rattle.common.specs.Choice.{pick}
 use Rattle.common.specs.Lists.{placed}
 use Rattle.common.specs.Refusal.{unless, when, first_due}
@@ -66,8 +66,8 @@ end_due short = first_due (when short 4 ∷ [])
 
 -- A step of the end. Where it was the last, no line of an event is told, and the closing lines are, with so many bytes behind the last whole point.
 pub data StepsEnd (rest : ℕ) (s : LockStream) (over : ℕ) (front lines : List ℕ) (next : LockStream) : Type 0 where
-  goes_on : (left : ℕ) → over ≡ 0 → StreamEnds s false left front lines next → StepsEnd rest s over front lines next
-  ended : (left : ℕ) → over ≡ 1 → StreamEnds s true left front [] next → lines ≡ closing_text false next.progress (came_of next.source) left rest
+  goes_on : over ≡ 0 → StreamEnds s None front lines next → StepsEnd rest s over front lines next
+  ended : (left : ℕ) → over ≡ 1 → StreamEnds s (Some left) front [] next → lines ≡ closing_text false next.progress (came_of next.source) left rest
       → StepsEnd rest s over front lines next
 
 -- What is promised of the end: a refusal leaves all that is lent as it was, else a step of it is taken.
@@ -97,6 +97,6 @@ abbrev pub LeavesEnd : ℕ → LockStream → List ℕ → List ℕ → List ℕ
 LeavesEnd rest s packets text counts over after given told tally = Leaves (λ next. EndsPairs rest packets text counts s 0 over next given told tally) after
 
 -- The text of a step of the end: the lines of its event where it was not the last, else the closing lines alone.
-pub data ClosesLines (s : LockStream) (over : Bool) (left rest told : ℕ) (lines : List ℕ) (r : ℕ) (exit : List ℕ) : Type 0 where
-  not_over : over ≡ false → r ≡ told → exit ≡ lines → ClosesLines s over left rest told lines r exit
-  closed : over ≡ true → r ≤ 2048 → r ≤ length exit → take r exit ≡ closing_text s.source.bits s.progress (came_of s.source) left rest → ClosesLines s over left rest told lines r exit
+pub data ClosesLines (s : LockStream) (over : Option ℕ) (rest told : ℕ) (lines : List ℕ) (r : ℕ) (exit : List ℕ) : Type 0 where
+  not_over : over ≡ None → r ≡ told → exit ≡ lines → ClosesLines s over rest told lines r exit
+  closed : (left : ℕ) → over ≡ Some left → r ≤ 2048 → r ≤ length exit → take r exit ≡ closing_text s.source.bits s.progress (came_of s.source) left rest → ClosesLines s over rest told lines r exit

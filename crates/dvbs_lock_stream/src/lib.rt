@@ -2,9 +2,9 @@
 // Their declarations are in include/dvbs.h, docs/STATES.md lists the layout of the state, and docs/ACQUISITION.md says what is decided and told.
 #![tactic(auto)]
 
-ghost use Rattle.std.specs.Prelude.{◌≡◌, true, map, ◌≤◌, ◌<◌, min, length, take};
+ghost use Rattle.std.specs.Prelude.{◌≡◌, true, map, ◌≤◌, ◌<◌, min, length, take, IfSome};
 ghost use Rattle.common.specs.Lists.{All};
-ghost use Rattle.answer.specs.Number.{number_of};
+ghost use Rattle.answer.specs.Number.{answered};
 ghost use Rattle.branch_metrics.specs.Cost.{received_of};
 ghost use Rattle.branch_metrics.specs.SoftPairs.{symbol_pair};
 ghost use Rattle.lock_stream.specs.Source.{came_of};
@@ -12,9 +12,9 @@ ghost use Rattle.lock_stream.specs.Stream.{StreamReady};
 ghost use Rattle.lock_state.specs.State.{in_range, Sized};
 ghost use Rattle.dvbs_lock_stream.specs.Calls.{fresh_number, fresh_bytes, points_due, end_due, short_room, GivesTold, ClosesLines, LeavesStep, LeavesEnd, FeedsLock, EndsLock};
 
-use answer::Answer;
+use answer::Refusal;
 use branch_metrics::soft_decision::soft_pairs;
-use common::{least, put};
+use common::put;
 use lock_state::{STATE_LENGTH, is_in_range, read_state, write_state};
 use lock_stream::LockStream;
 use reader::is_sound;
@@ -26,11 +26,11 @@ pub extern "C" fn dvbs_lock_fresh(state: &mut [u8], rate: u8) -> u8
         × (state.new ≡ fresh_bytes state.old rate) }
 {
     if state.len() != STATE_LENGTH {
-        let answer = Answer::StateLength;
+        let answer = Refusal::StateLength;
         return answer.number();
     }
     if rate >= 6 {
-        let answer = Answer::UnknownRate;
+        let answer = Refusal::UnknownRate;
         return answer.number();
     }
     let stream = LockStream::new(false, rate);
@@ -52,30 +52,30 @@ fn is_short(packets: usize, text: usize, counts: usize) -> bool
 }
 
 // The answer that is due to points, where so many came before them and there is room or not.
-fn points_due(came: u64, is: &[f32], qs: &[f32], lost: &[u8], short: bool) -> Answer
-    ensures { number_of result ≡ points_due came is.now qs.now lost.now short }
+fn points_due(came: u64, is: &[f32], qs: &[f32], lost: &[u8], short: bool) -> Result<(), Refusal>
+    ensures { answered result ≡ points_due came is.now qs.now lost.now short }
 {
     if !is_sound(is, qs, lost) {
-        return Answer::SoftLists;
+        return Err(Refusal::SoftLists);
     }
     if short {
-        return Answer::OutputLength;
+        return Err(Refusal::OutputLength);
     }
     let full = came >= 1152921504606845344;
     if full {
-        return Answer::CountsFull;
+        return Err(Refusal::CountsFull);
     }
-    Answer::Done
+    Ok(())
 }
 
 // The answer that is due to the end.
-fn end_due(short: bool) -> Answer
-    ensures { number_of result ≡ end_due short }
+fn end_due(short: bool) -> Result<(), Refusal>
+    ensures { answered result ≡ end_due short }
 {
     if short {
-        return Answer::OutputLength;
+        return Err(Refusal::OutputLength);
     }
-    Answer::Done
+    Ok(())
 }
 
 // Writes the decisions on the first of the points, a pair as one number: on how many.
@@ -85,7 +85,7 @@ fn decide(i: &[f32], q: &[f32], lost: &[u8], pairs: &mut [u8]) -> usize
         × (take result pairs.new ≡ take 1632 (map symbol_pair (received_of i.now q.now lost.now)))
         × (All (λ p. p < 81) (take result pairs.new)) }
 {
-    let some = least(1632, i.len() as u64) as usize;
+    let some = i.len().min(1632);
     soft_pairs(&i[..some], &q[..some], &lost[..some], pairs);
     some
 }
@@ -132,19 +132,18 @@ fn step_points(
 // The closing lines, where the end is over: how many bytes of text there are.
 fn close_over(
     stream: LockStream,
-    over: bool,
-    left: usize,
+    over: Option<usize>,
     rest: u64,
     told: usize,
     lines: &mut [u8],
 ) -> usize
-    requires { (StreamReady stream) × (left < 1632) × (told ≤ 2048) × (2048 ≤ length lines.old) }
-    ensures { ClosesLines stream over left rest told lines.old result lines.new }
+    requires { (StreamReady stream) × (IfSome over (λ left. left < 1632)) × (told ≤ 2048) × (2048 ≤ length lines.old) }
+    ensures { ClosesLines stream over rest told lines.old result lines.new }
 {
-    if !over {
-        return told;
+    match over {
+        Some(left) => stream.close(left, rest, lines),
+        None => told,
     }
-    stream.close(left, rest, lines)
 }
 
 // Takes a step of the end, and writes what it gives and tells, and the bytes of the stream after it: 1 where it was the last.
@@ -165,10 +164,13 @@ fn step_end(
     let next = step.stream;
     let given = step.packets;
     let over = step.over;
-    let told = close_over(next, over, step.left, rest, step.text, &mut lines);
+    let told = close_over(next, over, rest, step.text, &mut lines);
     write_state(next, state);
     put_told(&front[..given], &lines[..told], packets, text, counts);
-    if over { 1 } else { 0 }
+    match over {
+        Some(_) => 1,
+        None => 0,
+    }
 }
 
 // Takes some of the points, as many as one step takes: how many. The first two numbers of counts are how many bytes of packets and of text were written, and the first
@@ -190,20 +192,20 @@ pub extern "C" fn dvbs_lock_feed(
         return 0;
     }
     if state.len() != STATE_LENGTH {
-        let refusal = Answer::StateLength;
+        let refusal = Refusal::StateLength;
         answer[0] = refusal.number();
         return 0;
     }
     let before = read_state(state);
     if !is_in_range(before) {
-        let refusal = Answer::StateRange;
+        let refusal = Refusal::StateRange;
         answer[0] = refusal.number();
         return 0;
     }
     let source = before.source;
     let short = is_short(packets.len(), text.len(), counts.len());
     let due = points_due(source.came(), i, q, lost, short);
-    let number = due.number();
+    let number = answer::answered(&due);
     answer[0] = number;
     if number != 0 {
         return 0;
@@ -233,19 +235,19 @@ pub extern "C" fn dvbs_lock_end(
         return 0;
     }
     if state.len() != STATE_LENGTH {
-        let refusal = Answer::StateLength;
+        let refusal = Refusal::StateLength;
         answer[0] = refusal.number();
         return 0;
     }
     let before = read_state(state);
     if !is_in_range(before) {
-        let refusal = Answer::StateRange;
+        let refusal = Refusal::StateRange;
         answer[0] = refusal.number();
         return 0;
     }
     let short = is_short(packets.len(), text.len(), counts.len());
     let due = end_due(short);
-    let number = due.number();
+    let number = answer::answered(&due);
     answer[0] = number;
     if number != 0 {
         return 0;

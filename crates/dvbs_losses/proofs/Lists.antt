@@ -5,8 +5,7 @@ use mathlib.Core.List.{List, [], ◌∷◌, ◌++◌, append_assoc, append-nil}
 use mathlib.Core.Logic.{◌⊎◌, inl, inr}
 use Prim.Native.Nat.{ℕ, ◌+◌, ◌-◌, ◌≤◌}
 use native.Mathlib.Omega.{arith}
-use lib.ListN.{length, drop, replicate, length-append, length-replicate, replicate-append-replicate}
-use lib.Seq.{drop_at}
+use lib.ListN.{length, replicate, length-append, length-replicate, replicate-append-replicate}
 use Rattle.common.specs.Lists.{padded}
 
 -- marks behind marks: as many as bytes came, or none come any more
@@ -27,9 +26,3 @@ padded_both own (x ∷ more) b n h l (inr e) = absurd (omega arith)
 
 pub padded_length : (n : ℕ) (own : List ℕ) → length own ≤ n → length (padded n own) ≡ n
 padded_length n own h = let z : ℕ = 0 in omega (arith, length-append own (replicate (n - length own) z), length-replicate (n - length own) z)
-
-pub zeros_behind : (n : ℕ) → n ≤ 204 → drop {A = ℕ} n (replicate 204 0) ≡ replicate (204 - n) 0
-zeros_behind n h =
-    let z : ℕ = 0 in
-    let e : n + (204 - n) ≡ 204 = omega arith in
-    ap (λ (m : ℕ). drop n (replicate m z)) (sym e) ∙ ap (drop n) (sym (replicate-append-replicate n (204 - n) z)) ∙ drop_at (replicate n z) (replicate (204 - n) z) n (length-replicate n z)

@@ -6,8 +6,7 @@
 // Status 0: all was read and written. 1: something failed, or a mark was above 1. 2: a wrong call.
 #![tactic(auto)]
 
-ghost use Rattle.std.specs.Prelude.{◌≡◌, ◌≤◌, length};
-ghost use Rattle.common.specs.Lists.{padded};
+ghost use Rattle.std.specs.Prelude.{◌≡◌, ◌≤◌};
 ghost use Rattle.program_io.specs.Checksum.{no_bytes};
 ghost use Rattle.program_io.specs.Files.{input_trace, input_origin, output_file, output_trace};
 ghost use Rattle.program_io.specs.Words.{argument_count, word_is_option};
@@ -15,12 +14,13 @@ ghost use Rattle.losses.specs.Feed.{capacity_of};
 ghost use Rattle.dvbs_losses.specs.Ends.{right_call, Turns, AllRead, Status, Ends, Exits};
 
 use answer_lines::put_list;
+use common::joined;
 use losses::LossStream;
 use program_io::{Arguments, Asked, Input, MarkedEnded, Output, System, Word};
 use reception_counts::Counts;
 use std::process::ExitCode;
 
-// What a piece came to.
+// What a piece came to. The flag is beside the files and not in a Result: the files are handed on where it failed too.
 #[derive(Clone, Copy)]
 struct Turned {
     failed: bool,
@@ -28,16 +28,6 @@ struct Turned {
     output: Output,
     errors: Output,
     stream: LossStream,
-}
-
-// Marks at the front of an array, and 0 behind them.
-fn marks_of(own: &[u8]) -> [u8; 204]
-    requires { length own.now ≤ 204 }
-    ensures { result ≡ padded 204 own.now }
-{
-    let mut marks = [0u8; 204];
-    common::put(own, 0, &mut marks);
-    marks
 }
 
 // Takes a block with its marks, and writes the lines that are decided then, or tells a mark above 1.
@@ -67,12 +57,8 @@ fn turn(
             stream,
         };
     }
-    let marked = marks_of(&own[..length]);
-    let fed = stream.feed(&block, &marked, &mut lines);
-    let answer = fed.answer;
-    let count = fed.count;
-    let after = fed.stream;
-    if answer.number() != 0 {
+    let marked = joined::<204>(&[0u8; 0], &own[..length]);
+    let Ok(fed) = stream.feed(&block, &marked, &mut lines) else {
         let errors = errors.write_text(system, b"standard error", b"marks: a mark above 1\n");
         return Turned {
             failed: true,
@@ -81,8 +67,8 @@ fn turn(
             errors,
             stream,
         };
-    }
-    let end = put_list(&lines, count, 0, &mut text);
+    };
+    let end = put_list(&lines, fed.count, 0, &mut text);
     let written = output.write(system, b"standard output", &text[..end]);
     let failed = written.failed();
     Turned {
@@ -90,7 +76,7 @@ fn turn(
         marks: next,
         output: written,
         errors,
-        stream: after,
+        stream: fed.stream,
     }
 }
 
@@ -131,8 +117,8 @@ fn finish(
     }
     let mut lines = [0u64; 8];
     let mut text = [0u8; 640];
-    let closed = stream.close(&mut lines);
-    let count = closed.count;
+    // There is room for a line for each packet that waits.
+    let count = stream.close(&mut lines).unwrap_or(0);
     let end = put_list(&lines, count, 0, &mut text);
     let size = report_lines::put_line(b"rest=", rest as u64, end, &mut text);
     let written = output.write_text(system, b"standard output", &text[..size]);
@@ -165,8 +151,7 @@ fn run(system: &mut System, marks: Input) -> MarkedEnded
     let mut output = Output::standard();
     let mut errors = Output::errors();
     let mut stream = LossStream::new();
-    let mut blocks: u64 = 0;
-    while blocks < Counts::MOST {
+    for blocks in 0..Counts::MOST {
         let mut block = [0u8; 204];
         let filled = input.fill(system, b"standard input", &mut block);
         let size = filled.length;
@@ -189,7 +174,6 @@ fn run(system: &mut System, marks: Input) -> MarkedEnded
                 errors,
             };
         }
-        blocks += 1;
     }
     finish(system, input, own, output, errors, stream, 0)
 }

@@ -3,21 +3,45 @@
 #![tactic(auto)]
 
 ghost use Rattle.std.specs.Prelude.{◌≡◌, ◌++◌, ◌≤◌, length, drop};
+ghost use Rattle.answer.specs.Number.{answered, given_or};
 ghost use Rattle.dvbs_reader.specs.ReadRun.{result_bytes, ReadRunExported, SoftRunExported};
 
-use common::byte_at;
+use answer::Refusal;
+use common::{byte_at, put};
+use reader::Read;
 
-// Writes what reading a run came to: the number of the answer, the memory after it, and the cost in four bytes.
+// Writes the number of the answer, the memory after a run, and the cost in four bytes.
 fn put_result(number: u8, memory: u8, cost: u64, res: &mut [u8])
     requires { 6 ≤ length res.old }
     ensures { res.new ≡ result_bytes number memory cost ++ drop 6 res.old }
 {
-    res[0] = number;
-    res[1] = memory;
-    res[2] = byte_at(cost, 0);
-    res[3] = byte_at(cost, 1);
-    res[4] = byte_at(cost, 2);
-    res[5] = byte_at(cost, 3);
+    let bytes = [
+        number,
+        memory,
+        byte_at(cost, 0),
+        byte_at(cost, 1),
+        byte_at(cost, 2),
+        byte_at(cost, 3),
+    ];
+    put(&bytes, 0, res);
+}
+
+// Writes what reading a run came to: the number of bits. A run that is refused leaves the memory.
+fn put_read(read: Result<Read, Refusal>, memory: u8, res: &mut [u8]) -> u64
+    requires { 6 ≤ length res.old }
+    ensures counted { result ≡ given_or 0 (λ r. r.count) read }
+    ensures written { res.new ≡ result_bytes (answered read) (given_or memory (λ r. r.memory) read) (given_or 0 (λ r. r.cost) read) ++ drop 6 res.old }
+{
+    match read {
+        Ok(run) => {
+            put_result(0, run.memory, run.cost, res);
+            run.count as u64
+        }
+        Err(refusal) => {
+            put_result(refusal.number(), memory, 0, res);
+            0
+        }
+    }
 }
 
 // Reads a run of symbols: the number of bits written. The first six bytes of result have the number of the answer, the memory after the run and
@@ -35,10 +59,7 @@ pub extern "C" fn dvbs_read_run(
     if res.len() < 6 {
         return 0;
     }
-    let read = reader::read_run(rate, memory, symbols, output);
-    let answer = read.answer;
-    put_result(answer.number(), read.memory, read.cost, res);
-    read.count as u64
+    put_read(reader::read_run(rate, memory, symbols, output), memory, res)
 }
 
 // Reads a run by soft decisions, from the numbers I and Q of each symbol and 1 where it was lost or 0: the number of bits written. The first six
@@ -58,8 +79,9 @@ pub extern "C" fn dvbs_read_soft_run(
     if res.len() < 6 {
         return 0;
     }
-    let read = reader::read_soft_run(rate, memory, i, q, lost, output);
-    let answer = read.answer;
-    put_result(answer.number(), read.memory, read.cost, res);
-    read.count as u64
+    put_read(
+        reader::read_soft_run(rate, memory, i, q, lost, output),
+        memory,
+        res,
+    )
 }

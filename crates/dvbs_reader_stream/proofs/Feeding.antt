@@ -1,6 +1,7 @@
 -- A call of the stream reader on the state that is read, and its bytes after it, are what a call on the bytes promises.
 -- Assumes nothing.
-use mathlib.Core.Path.{◌≡◌, refl, sym, subst, ◌∙◌}
+use mathlib.Core.Path.{◌≡◌, refl, sym, ap, subst, ◌∙◌}
+use Rattle.std.proofs.Common.{◌⊎◌, inl, inr}
 use mathlib.Core.Bool.{Bool, true, false}
 use mathlib.Core.List.{List}
 use Prim.Native.Nat.{ℕ, ◌+◌, ◌*◌, ◌≤◌, ◌<◌}
@@ -14,7 +15,7 @@ use Rattle.common.specs.Lists.{All, ByteEntries, largest}
 use Rattle.common.proofs.Computed.{below_at}
 use Rattle.common.proofs.Largest.{largest_least}
 use Rattle.common.proofs.Lists.{All-of}
-use Rattle.state_bytes.specs.Calls.{CallsOn, no_state, as_own}
+use Rattle.state_bytes.specs.Calls.{CallsOn, wrong_length, no_state, as_own}
 use Rattle.state_bytes.proofs.States.{stands_read, none_stands}
 use Rattle.puncturing.specs.Mode.{mode_of, qpsk_count}
 use Rattle.reader.specs.Read.{symbols_per_pattern, valid, sound}
@@ -65,23 +66,26 @@ few_symbols rate h = leb→le _ _ (below_at (λ r. leb (symbols_per_pattern r) 4
 
 -- ---- the calls
 
-module _ (state answer : List ℕ) (one : 1 ≤ length answer) (n : length state ≡ state_length) where
-  -- a state out of range stands for none
-  pub none_called : {Nothing : Type 0} {Own : ReaderStream → ℕ → ReaderStream → Type 0} (told : List ℕ) → in_range (state_of state) ≡ false → Nothing → told ≡ set answer 0 5
-      → CallsOn layout state_length in_range Nothing Own state answer state told
-  none_called told f e q = no_state one n (none_stands reads state f) e refl q
+module _ (state answer : List ℕ) (one : 1 ≤ length answer) where
+  -- bytes that stand for no reader
+  pub none_reads : {Nothing : Type 0} {Own : ReaderStream → ℕ → ReaderStream → Type 0} (number : ℕ)
+      → ((number ≡ 22) × (length state ≡ state_length → ⊥)) ⊎ ((number ≡ 5) × (length state ≡ state_length) × (in_range (state_of state) ≡ false)) → Nothing
+      → CallsOn layout state_length in_range Nothing Own state answer state (set answer 0 number)
+  none_reads number (inl (e, f)) nothing = wrong_length one f nothing refl (ap (set answer 0) e)
+  none_reads number (inr (e, n, f)) nothing = no_state one n (none_stands reads state f) nothing refl (ap (set answer 0) e)
 
-  module _ (e : ByteEntries state) (k : in_range (state_of state) ≡ true) where
-    stands : StandsFor state (state_of state)
-    stands = stands_read reads state n e k
+module _ (state : List ℕ) (n : length state ≡ state_length) (e : ByteEntries state) (k : in_range (state_of state) ≡ true) where
+  stands : StandsFor state (state_of state)
+  stands = stands_read reads state n e k
 
-    pub read_ready : ReaderReady (state_of state)
-    read_ready = stands_ready state (state_of state) stands
+  pub read_ready : ReaderReady (state_of state)
+  read_ready = stands_ready state (state_of state) stands
 
+  module _ (answer : List ℕ) (one : 1 ≤ length answer) where
     -- where it is refused, the bytes of the state are left alone
-    pub refused_pairs : (due : ℕ) (pairs output : List ℕ) (number : ℕ) (told : List ℕ) → number ≡ due → (number ≡ 0 → ⊥) → told ≡ set answer 0 number
+    pub refused_pairs : (due : ℕ) (pairs output : List ℕ) (number : ℕ) (told : List ℕ) → number ≡ due → 0 < number → told ≡ set answer 0 number
         → CallsOn layout state_length in_range ((◌≡◌ {A = ℕ} 0 0) × (output ≡ output)) (λ s number next. FeedsPairs due s pairs output number 0 next output) state answer state told
-    refused_pairs due pairs output number told d f q = as_own one (state_of state) stands number (state_of state) (refused d (omega (arith, f)) refl refl refl) q stands.written stands
+    refused_pairs due pairs output number told d f q = as_own one (state_of state) stands number (state_of state) (refused d f refl refl refl) q stands.written stands
 
     -- and else those of the reader after it are written
     pub fed_pairs : (due : ℕ) (pairs output : List ℕ) (number : ℕ) (count : ℕ) (next : ReaderStream) (exit after told : List ℕ) → number ≡ due → number ≡ 0
@@ -92,10 +96,10 @@ module _ (state answer : List ℕ) (one : 1 ≤ length answer) (n : length state
         (subst (λ (bytes : List ℕ). StandsFor bytes (cleared next)) (sym w) (stands_cleared next f.ready))
 
     -- the end leaves them alone
-    pub refused_ends : (output left : List ℕ) (number : ℕ) (told : List ℕ) → number ≡ end_due (length output) (length left) → (number ≡ 0 → ⊥) → told ≡ set answer 0 number
+    pub refused_ends : (output left : List ℕ) (number : ℕ) (told : List ℕ) → number ≡ end_due (length output) (length left) → 0 < number → told ≡ set answer 0 number
         → EndsState state output left answer 0 output left told
     refused_ends output left number told d f q =
-        as_own one (state_of state) stands number (state_of state) (refl, refused_end d (omega (arith, f)) refl refl refl) q stands.written stands
+        as_own one (state_of state) stands number (state_of state) (refl, refused_end d f refl refl refl) q stands.written stands
 
     pub ends : (output left : List ℕ) (number : ℕ) (f : Finished) (exit behind told : List ℕ) → number ≡ end_due (length output) (length left) → number ≡ 0
         → FinishesReader (state_of state) output f exit → behind ≡ set (set left 0 f.rest) 1 f.bits → told ≡ set answer 0 number

@@ -8,12 +8,12 @@ use borrow.Rule.Slice.PartMut.{put_mid, same_len_mid}
 use lib.Ieee.{Float, nan}
 use lib.ListN.{length, get_or, take, drop, length-append, length-take, length-drop, length-map}
 use lib.Seq.{length-take-le, take-length, take-add, ext_get_or, get_or-take, get_or-drop}
+use Rattle.std.specs.Prelude.{None}
 use Rattle.common.specs.Lists.{All}
 use Rattle.common.proofs.Lists.{All-of, All-at, get_d_map_in}
 use Rattle.bit_packing.proofs.Packing.{carried_length, packs_all, packs_fit, packs_none, packs_put}
 use Rattle.branch_metrics.specs.Cost.{received, received_of}
 use Rattle.branch_metrics.specs.SoftPairs.{symbol_pair, symbol_at}
-use Rattle.branch_metrics.specs.declared.soft_decision.ReceivedSymbol.TheVariants.{Lost}
 use Rattle.branch_metrics.proofs.Runs.{length_received, received_at, along_small}
 use Rattle.puncturing.specs.Mode.{qpsk_count}
 use Rattle.reader.specs.Decisions.{hard_pair}
@@ -169,7 +169,7 @@ module _ (at n : ℕ) (pairs : List ℕ) (long : n ≤ length pairs) where
         each t (omega (arith, size))
         ∙ ap symbol_pair (λ i. received (float is t b i) (float qs t b i) ((get_or-take n (drop at lost) t 0 b ∙ get_or-drop at lost t 0) i))
         ∙ ap symbol_pair (sym (received_at is qs lost qs_size lost_size (at + t) (omega arith)))
-        ∙ sym (get_d_map_in symbol_pair rs Lost 0 (at + t) (omega arith)))
+        ∙ sym (get_d_map_in symbol_pair rs None 0 (at + t) (omega arith)))
       where
         float : (l : List Float) (t : ℕ) → t < n → get_or (take n (drop at l)) t nan ≡ get_or l (at + t) nan
         float l t b = get_or-take n (drop at l) t nan b ∙ get_or-drop at l t nan

@@ -9,16 +9,15 @@ use borrow.Author.Tests.{eq-eqb, ne_eqb}
 use lib.Dec.{eqb}
 use lib.ListN.{length, get_or, take, set, length-map, length-set}
 use lib.Seq.{take-length, get_or-set_same, get_or-set_other}
+use Rattle.std.specs.Prelude.{None}
 use Rattle.common.specs.Choice.{pick}
 use Rattle.common.specs.Lists.{All}
 use Rattle.common.proofs.Lists.{get_d_map_in}
 use Rattle.convolutional_code.specs.Bits.{Bits}
 use Rattle.state_bytes.proofs.Calls.{own_call}
 use Rattle.puncturing.specs.Mode.{qpsk_count}
-use Rattle.branch_metrics.specs.Cost.{softly, received_of}
+use Rattle.branch_metrics.specs.Cost.{softly, received_of, ReceivedSymbol}
 use Rattle.branch_metrics.specs.SoftPairs.{symbol_pair}
-use Rattle.branch_metrics.specs.declared.soft_decision.ReceivedSymbol.{ReceivedSymbol}
-use Rattle.branch_metrics.specs.declared.soft_decision.ReceivedSymbol.TheVariants.{Lost}
 use Rattle.inner_code.specs.Encode.{coder_at}
 use Rattle.inner_code.specs.Step.{symbols_of}
 use Rattle.reader.specs.Clear.{AllClear}
@@ -166,4 +165,4 @@ soft_costed rs =
     let l = map symbol_pair rs in
     let n : length l ≡ length rs = length-map rs symbol_pair in
     let all : take (length rs) l ≡ l = ap (λ (k : ℕ). take k l) (sym n) ∙ take-length l in
-    subst (Costed softly rs) all (along_costed (λ i. get_or rs i Lost) rs (length rs) refl (λ i h. refl) l (omega arith) (λ t h. get_d_map_in symbol_pair rs Lost 0 t h))
+    subst (Costed softly rs) all (along_costed (λ i. get_or rs i None) rs (length rs) refl (λ i h. refl) l (omega arith) (λ t h. get_d_map_in symbol_pair rs None 0 t h))

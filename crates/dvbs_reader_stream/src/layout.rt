@@ -64,16 +64,7 @@ pub fn is_in_range(stream: ReaderStream) -> bool
     requires { length stream.runs.held ≡ 1632 }
     ensures { result ≡ in_range stream }
 {
-    let runs = stream.runs;
-    let carry = stream.carry;
-    let held = stream.held;
-    if !are_in_range(runs) {
-        return false;
-    }
-    if held >= 8 {
-        return false;
-    }
-    carry < power_of(held)
+    are_in_range(stream.runs) && stream.held < 8 && stream.carry < power_of(stream.held)
 }
 
 // The bits that are carried, with 0 above them.
@@ -93,7 +84,7 @@ fn put_fields(pairs: &[u8], numbers: &[u8], bytes: &mut [u8])
     put(numbers, COUNT, bytes);
 }
 
-// The bytes that stand for a reader, with 0 where it holds nothing.
+// The bytes that stand for a reader, with 0 where it holds nothing. That it is ready stays a fact: a reader is made of any bytes first, and then tested.
 pub fn write_state(stream: ReaderStream, bytes: &mut [u8])
     requires { (ReaderReady stream) × (length bytes.old ≡ 1638) }
     ensures { bytes.new ≡ state_bytes (cleared stream) }

@@ -7,7 +7,6 @@ ghost use Rattle.reader.specs.Decisions.{hard_pair};
 ghost use Rattle.reader_stream.specs.Stream.{ReaderReady, FeedsReader};
 
 use branch_metrics::soft_decision::soft_pairs;
-use common::least;
 use reader::hard_pairs;
 use reader_stream::{ReaderFed, ReaderStream};
 
@@ -21,13 +20,13 @@ pub fn feed_symbols(stream: ReaderStream, symbols: &[u8], output: &mut [u8]) -> 
     let mut next = stream;
     let mut count: usize = 0;
     let mut at: usize = 0;
+    // A `while`: each step takes as many symbols as the list of pairs holds, or those that are left.
     while at < symbols.len() {
-        let some = least(1632, (symbols.len() - at) as u64) as usize;
+        let some = (symbols.len() - at).min(1632);
         let end = at + some;
         hard_pairs(&symbols[at..end], &mut pairs);
         let fed = next.feed(&pairs[..some], &mut bits, &mut output[count..]);
-        let after = fed.stream;
-        next = after;
+        next = fed.stream;
         count += fed.count;
         at = end;
     }
@@ -53,13 +52,13 @@ pub fn feed_points(
     let mut next = stream;
     let mut count: usize = 0;
     let mut at: usize = 0;
+    // A `while`, as above.
     while at < is.len() {
-        let some = least(1632, (is.len() - at) as u64) as usize;
+        let some = (is.len() - at).min(1632);
         let end = at + some;
         soft_pairs(&is[at..end], &qs[at..end], &lost[at..end], &mut pairs);
         let fed = next.feed(&pairs[..some], &mut bits, &mut output[count..]);
-        let after = fed.stream;
-        next = after;
+        next = fed.stream;
         count += fed.count;
         at = end;
     }

@@ -1,12 +1,12 @@
 // The state of a receiver of pieces as bytes: where each field begins, and the reading and writing of all of them.
 // specs/State.antt has the layout as a table, and docs/STATES.md lists it with the range of each field.
-ghost use Rattle.std.specs.Prelude.{◌≡◌, false, ◌++◌, ◌+◌, ◌≤◌, ◌<◌, eqb, ltb, length, take, drop};
+ghost use Rattle.std.specs.Prelude.{◌≡◌, false, ◌++◌, ◌<◌, eqb, ltb, length, drop};
 ghost use Rattle.common.specs.Choice.{pick};
 ghost use Rattle.common.specs.Lists.{largest};
 ghost use Rattle.dvbs_receiver.specs.State.{is_clear, state_bytes};
 ghost use Rattle.dvbs_receiver.specs.Reading.{state_of};
 
-use common::largest_of;
+use common::{array_at, largest_of};
 use receiver_stream::ReceiverStream;
 
 // The first byte of each field behind those of the receiver of blocks, and the length of all of them.
@@ -18,25 +18,14 @@ const HELD: usize = 2730;
 
 pub const STATE_LENGTH: usize = 2731;
 
-// A byte for each of a block, or its marks.
-fn block_at(bytes: &[u8], at: usize) -> [u8; 204]
-    requires { at + 204 ≤ length bytes.now }
-    ensures { result ≡ take 204 (drop at bytes.now) }
-{
-    let mut block = [0u8; 204];
-    let end = at + 204;
-    common::put(&bytes[at..end], 0, &mut block);
-    block
-}
-
 // The receiver that bytes stand for. Whether its numbers are in range is asked by the receiver.
 pub fn read_state(bytes: &[u8]) -> ReceiverStream
     requires { length bytes.now ≡ 2731 }
     ensures { result ≡ state_of bytes.now }
 {
     let receiver = receiver_state::read_state(bytes);
-    let pending = block_at(bytes, PENDING);
-    let marks = block_at(bytes, DOUBTFUL);
+    let pending = array_at(bytes, PENDING);
+    let marks = array_at(bytes, DOUBTFUL);
     let held = bytes[HELD] as usize;
     ReceiverStream {
         receiver,
@@ -58,19 +47,10 @@ fn is_vacant(cells: &[u8], held: usize) -> bool
 pub fn is_clear(stream: ReceiverStream) -> bool
     ensures { result ≡ pick (ltb stream.held 204) (is_clear stream) false }
 {
-    let held = stream.held;
-    let pending = stream.pending;
-    let marks = stream.marks;
-    if held >= 204 {
-        return false;
-    }
-    if !is_vacant(&pending, held) {
-        return false;
-    }
-    if !is_vacant(&marks, held) {
-        return false;
-    }
-    largest_of(&marks) < 2
+    stream.held < 204
+        && is_vacant(&stream.pending, stream.held)
+        && is_vacant(&stream.marks, stream.held)
+        && largest_of(&stream.marks) < 2
 }
 
 // Writes the fields to their places.

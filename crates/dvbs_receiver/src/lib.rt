@@ -5,7 +5,7 @@
 ghost use Rattle.std.specs.Prelude.{◌≡◌};
 ghost use Rattle.dvbs_receiver.specs.Calls.{fresh_number, fresh_bytes, FeedsPiece, ReportsState};
 
-use answer::Answer;
+use answer::Refusal;
 use receiver_stream::ReceiverStream;
 
 mod layout;
@@ -19,11 +19,9 @@ pub extern "C" fn dvbs_receiver_fresh(state: &mut [u8]) -> u8
         × (state.new ≡ fresh_bytes state.old) }
 {
     if state.len() != STATE_LENGTH {
-        let answer = Answer::StateLength;
-        return answer.number();
+        return Refusal::StateLength.number();
     }
-    let stream = ReceiverStream::new();
-    write_state(stream, state);
+    write_state(ReceiverStream::new(), state);
     0
 }
 
@@ -42,27 +40,25 @@ pub extern "C" fn dvbs_receiver_feed(
         return 0;
     }
     if state.len() != STATE_LENGTH {
-        let refusal = Answer::StateLength;
-        answer[0] = refusal.number();
+        answer[0] = Refusal::StateLength.number();
         return 0;
     }
     let before = read_state(state);
     if !is_clear(before) {
-        let refusal = Answer::StateRange;
-        answer[0] = refusal.number();
+        answer[0] = Refusal::StateRange.number();
         return 0;
     }
-    let fed = before.feed(piece, marks, output);
-    let said = fed.answer;
-    let count = fed.count;
-    let stream = fed.stream;
-    let number = said.number();
-    answer[0] = number;
-    if number != 0 {
-        return 0;
+    match before.feed(piece, marks, output) {
+        Ok(fed) => {
+            answer[0] = 0;
+            write_state(fed.stream, state);
+            fed.count as u64
+        }
+        Err(refusal) => {
+            answer[0] = refusal.number();
+            0
+        }
     }
-    write_state(stream, state);
-    count as u64
 }
 
 // Writes the pass report of all that came: its length. The first byte of answer has the number of the answer.
@@ -74,18 +70,22 @@ pub extern "C" fn dvbs_receiver_report(state: &[u8], output: &mut [u8], answer: 
         return 0;
     }
     if state.len() != STATE_LENGTH {
-        let refusal = Answer::StateLength;
-        answer[0] = refusal.number();
+        answer[0] = Refusal::StateLength.number();
         return 0;
     }
     let stream = read_state(state);
     if !is_clear(stream) {
-        let refusal = Answer::StateRange;
-        answer[0] = refusal.number();
+        answer[0] = Refusal::StateRange.number();
         return 0;
     }
-    let written = stream.report(output);
-    let said = written.answer;
-    answer[0] = said.number();
-    written.length as u64
+    match stream.report(output) {
+        Ok(length) => {
+            answer[0] = 0;
+            length as u64
+        }
+        Err(refusal) => {
+            answer[0] = refusal.number();
+            0
+        }
+    }
 }

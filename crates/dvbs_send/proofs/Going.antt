@@ -5,9 +5,13 @@ use mathlib.Core.Bool.{Bool, true, false, true≢false}
 use mathlib.Core.List.{List, [], ◌++◌, append-nil}
 use Prim.Native.Nat.{ℕ, ◌+◌, ◌/◌, ◌%◌, ◌≤◌}
 use native.Mathlib.Omega.{arith}
+use borrow.Author.Tests.{le-ltb}
 use lib.IntN.{pos}
 use lib.ListN.{length, take, replicate, length-append, length-map}
 use lib.Seq.{length-take-le}
+use Rattle.answer.specs.Number.{number_of}
+use Rattle.answer.specs.declared.Refusal.{Refusal}
+use Rattle.answer.specs.declared.Refusal.TheVariants.{PacketLength, SyncByte, BlockLength, OutputLength, StateRange, UnknownRate, CountsFull, Uncorrectable, PatternLength, RunLength, SymbolRange, NoSuchBlock, NotReport, WrongSums, FormKept, MarkValue, TooManyReports, StateLength, UnknownCount, SoftLists}
 use Rattle.common.specs.Choice.{pick}
 use Rattle.common.specs.Lists.{chunks_of}
 use Rattle.common.proofs.Chunks.{length-chunks}
@@ -15,7 +19,7 @@ use Rattle.puncturing.specs.Mode.{mode_of}
 use Rattle.inner_code.specs.Encode.{new_number}
 use Rattle.sender.specs.Input.{sent_number}
 use Rattle.sender.proofs.Ready.{Ready}
-use Rattle.sender_stream.specs.Feed.{holding, fresh_sender_stream, OutputsFit, FeedsAll}
+use Rattle.sender_stream.specs.Feed.{holding, fresh_sender_stream, sender_feed_number, OutputsFit, FeedsAll, FeedsSender, refused, fed}
 use Rattle.sender_stream.specs.History.{Transmitted}
 use Rattle.sender_stream.specs.declared.SenderStream.{SenderStream}
 use Rattle.sender_stream.proofs.Laws.{most_fits}
@@ -52,6 +56,37 @@ sent_none mode n {stream} e o f =
     }
 
 -- ---- a piece
+
+-- a refusal has a number other than 0
+number_some : (refusal : Refusal) → number_of refusal ≡ 0 → ⊥
+number_some PacketLength e = omega arith
+number_some SyncByte e = omega arith
+number_some BlockLength e = omega arith
+number_some OutputLength e = omega arith
+number_some StateRange e = omega arith
+number_some UnknownRate e = omega arith
+number_some CountsFull e = omega arith
+number_some Uncorrectable e = omega arith
+number_some PatternLength e = omega arith
+number_some RunLength e = omega arith
+number_some SymbolRange e = omega arith
+number_some NoSuchBlock e = omega arith
+number_some NotReport e = omega arith
+number_some WrongSums e = omega arith
+number_some FormKept e = omega arith
+number_some MarkValue e = omega arith
+number_some TooManyReports e = omega arith
+number_some StateLength e = omega arith
+number_some UnknownCount e = omega arith
+number_some SoftLists e = omega arith
+
+-- so what fits is not refused
+pub fed_whole : (refusal : Refusal) {w : SenderStream} {piece output answers left told : List ℕ} {number count packets : ℕ} {next : SenderStream} → number ≡ number_of refusal
+    → FeedsSender w piece output answers number count packets next left told → OutputsFit w piece output answers → ⊥
+fed_whole refusal {w} {piece} {output} {answers} q (refused e z) g =
+    let none : sender_feed_number w piece output answers ≡ 0 = simp (g.range, g.sent, le-ltb _ _ g.symbols, le-ltb _ _ g.answers_fit) in
+    z (e ∙ none)
+fed_whole refusal q (fed z a) g = number_some refusal (sym q ∙ a.done)
 
 module _ (mode : ℕ) (bytes piece : List ℕ) {s : Sending} (t : Sent mode bytes s) where
   answers_length : length (answers_of bytes) ≡ length bytes / 188

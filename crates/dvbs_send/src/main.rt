@@ -19,7 +19,7 @@ use std::process::ExitCode;
 
 mod lines;
 
-// What the words of a call ask for. Mode 6 is none.
+// What the words of a call ask for. Mode 6 is none: the definitions in specs/Ends.antt count with it.
 #[derive(Clone, Copy)]
 pub struct SendRequest {
     pub mode: u8,
@@ -80,11 +80,9 @@ fn tell_answers(system: &mut System, errors: Output, first: u64, answers: &[u8])
         errors,
         replaced: 0,
     };
-    let mut i: usize = 0;
-    while i < answers.len() {
-        let next = tell_answer(system, told, first + i as u64, answers[i]);
+    for (i, answer) in answers.iter().enumerate() {
+        let next = tell_answer(system, told, first + i as u64, *answer);
         told = next;
-        i += 1;
     }
     told
 }
@@ -125,7 +123,10 @@ fn send_piece(
     let errors = sending.errors;
     let came = sending.came;
     let replaced = sending.replaced;
-    let fed = stream.feed(piece, symbols, answers);
+    // The mode is one that is sent, and there is room for what a piece gives.
+    let Ok(fed) = stream.feed(piece, symbols, answers) else {
+        unreachable!()
+    };
     let count = fed.count;
     let packets = fed.packets;
     let stream = fed.sending;
@@ -167,7 +168,10 @@ fn send_null_packets(system: &mut System, mode: u8, sending: Sending) -> Output
     let piece = [0u8; 2068];
     let mut symbols = [0u8; 17952];
     let mut answers = [0u8; 11];
-    let fed = stream.feed(&piece, &mut symbols, &mut answers);
+    // As in `send_piece`.
+    let Ok(fed) = stream.feed(&piece, &mut symbols, &mut answers) else {
+        unreachable!()
+    };
     let count = fed.count;
     output.write(system, b"standard output", &symbols[..count])
 }
@@ -228,6 +232,7 @@ fn finish(system: &mut System, mode: u8, flush: bool, input: Input, sending: Sen
     }
 }
 
+// Mode and flush are what the contracts speak of, and the files go on by themselves, so that tests/programs.sh can follow each: they are no struct.
 // Sends piece after piece, until the input is over or the output fails.
 fn send_all(
     system: &mut System,
@@ -243,8 +248,7 @@ fn send_all(
         × (FreshOutput (pos 2) errors) }
     ensures { Ends mode flush result }
 {
-    let begun = SenderStream::new(mode);
-    let stream = begun.sending;
+    let stream = SenderStream::fresh(mode);
     let mut input = input;
     let mut sending = Sending {
         stream,
@@ -257,6 +261,7 @@ fn send_all(
     let mut buffer = [0u8; 12032];
     let mut symbols = [0u8; 104448];
     let mut answers = [0u8; 64];
+    // A `while`: it reads until the input ends, and counts what came.
     while came < MOST {
         let read = input.read(system, b"standard input", &mut buffer, 12032);
         let n = read.length;
@@ -306,7 +311,7 @@ fn request_of(count: usize, first: Word, second: Word) -> SendRequest
 {
     if count == 1 {
         return SendRequest {
-            mode: rate_words::mode_of(first),
+            mode: rate_words::mode_of(first).unwrap_or(6),
             flush: false,
         };
     }
@@ -323,7 +328,7 @@ fn request_of(count: usize, first: Word, second: Word) -> SendRequest
         };
     }
     SendRequest {
-        mode: rate_words::mode_of(second),
+        mode: rate_words::mode_of(second).unwrap_or(6),
         flush: true,
     }
 }

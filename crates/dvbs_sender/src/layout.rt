@@ -8,7 +8,6 @@ use inner_code::InnerCoder;
 use interleaver::Interleaver;
 use interleaver::branches::Branches;
 use sender::Sender;
-use state_bytes::{cells_at, positions_at};
 
 // The first byte of each field, and the length of all of them.
 const CELLS: usize = 0;
@@ -32,25 +31,19 @@ pub fn read_state(bytes: &[u8]) -> Sender
     requires { length bytes.now ≡ 1139 }
     ensures { result ≡ state_of bytes.now }
 {
-    let cells = cells_at(bytes, CELLS);
-    let positions = positions_at(bytes, POSITIONS);
-    let branches = Branches { cells, positions };
-    let interleaver = Interleaver { branches };
-    let group_place = bytes[PLACE];
-    let rate = bytes[MODE];
-    let memory = bytes[MEMORY];
-    let place = bytes[PATTERN];
-    let held = bytes[HELD];
-    let coder = InnerCoder {
-        rate,
-        memory,
-        place,
-        held,
-    };
+    let cells = common::array_at(bytes, CELLS);
+    let positions = common::array_at(bytes, POSITIONS);
     Sender {
-        place: group_place,
-        interleaver,
-        coder,
+        place: bytes[PLACE],
+        interleaver: Interleaver {
+            branches: Branches { cells, positions },
+        },
+        coder: InnerCoder {
+            rate: bytes[MODE],
+            memory: bytes[MEMORY],
+            place: bytes[PATTERN],
+            held: bytes[HELD],
+        },
     }
 }
 
@@ -69,10 +62,7 @@ pub fn write_state(sender: Sender, bytes: &mut [u8])
     requires { length bytes.old ≡ 1139 }
     ensures { bytes.new ≡ state_bytes sender }
 {
-    let interleaver = sender.interleaver;
-    let branches = interleaver.branches;
-    let cells = branches.cells;
-    let positions = branches.positions;
+    let branches = sender.interleaver.branches;
     let coder = sender.coder;
     let numbers = [
         sender.place,
@@ -81,5 +71,5 @@ pub fn write_state(sender: Sender, bytes: &mut [u8])
         coder.place,
         coder.held,
     ];
-    put_fields(&cells, &positions, &numbers, bytes);
+    put_fields(&branches.cells, &branches.positions, &numbers, bytes);
 }

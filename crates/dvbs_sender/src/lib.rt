@@ -3,24 +3,14 @@
 #![tactic(auto)]
 
 ghost use Rattle.std.specs.Prelude.{◌≡◌};
-ghost use Rattle.dvbs_sender.specs.Calls.{fresh_number, fresh_bytes, refuses, SendsPacket};
+ghost use Rattle.dvbs_sender.specs.Calls.{fresh_number, fresh_bytes, SendsPacket};
 
-use answer::Answer;
+use answer::Refusal;
 use sender::Sender;
 
 mod layout;
 
 use layout::{STATE_LENGTH, read_state, write_state};
-
-// Whether an answer of the sender is a refusal: other than 0 and 15.
-fn is_refusal(number: u8) -> bool
-    ensures { result ≡ refuses number }
-{
-    if number == 0 {
-        return false;
-    }
-    number != 15
-}
 
 // Makes the state of a fresh sender in a mode: the number of the answer.
 #[unsafe(no_mangle)]
@@ -29,18 +19,15 @@ pub extern "C" fn dvbs_sender_fresh(state: &mut [u8], mode: u8) -> u8
         × (state.new ≡ fresh_bytes state.old mode) }
 {
     if state.len() != STATE_LENGTH {
-        let answer = Answer::StateLength;
-        return answer.number();
+        return Refusal::StateLength.number();
     }
-    let created = Sender::new(mode);
-    let answer = created.answer;
-    let sender = created.sender;
-    let number = answer.number();
-    if number != 0 {
-        return number;
+    match Sender::new(mode) {
+        Ok(sender) => {
+            write_state(sender, state);
+            0
+        }
+        Err(refusal) => refusal.number(),
     }
-    write_state(sender, state);
-    0
 }
 
 // Sends a packet, or a null packet for no bytes: the number of symbols written. The first byte of answer has the number of the answer.
@@ -57,20 +44,18 @@ pub extern "C" fn dvbs_sender_send(
         return 0;
     }
     if state.len() != STATE_LENGTH {
-        let refusal = Answer::StateLength;
-        answer[0] = refusal.number();
+        answer[0] = Refusal::StateLength.number();
         return 0;
     }
-    let before = read_state(state);
-    let sent = before.send(packet, output);
-    let said = sent.answer;
-    let count = sent.count;
-    let sender = sent.sender;
-    let number = said.number();
-    answer[0] = number;
-    if is_refusal(number) {
-        return 0;
+    match read_state(state).send(packet, output) {
+        Ok(sent) => {
+            answer[0] = sent.number();
+            write_state(sent.sender, state);
+            sent.count as u64
+        }
+        Err(refusal) => {
+            answer[0] = refusal.number();
+            0
+        }
     }
-    write_state(sender, state);
-    count as u64
 }

@@ -1,10 +1,9 @@
 -- The block with the errors taken away.
 -- Assumes nothing.
-use mathlib.Core.Path.{◌≡◌, refl, sym, ap, ap₂, ◌∙◌}
+use mathlib.Core.Path.{◌≡◌, sym, ap, ap₂, ◌∙◌}
 use mathlib.Core.Bool.{Bool, true, false}
 use mathlib.Core.List.{List, [], ◌∷◌}
 use Prim.Native.Nat.{ℕ, suc, ◌+◌, ◌-◌, ◌≤◌, ◌<◌}
-use native.Mathlib.Nat.{zero-add}
 use native.Mathlib.Numerals.{add-one}
 use native.Mathlib.Omega.{arith}
 use borrow.Author.Tests.{eq-eqb, ne_eqb}
@@ -30,9 +29,6 @@ changed_le (e ∷ l) = go (eqb e 0) (changed_le l)
     go : (b : Bool) → changed_in l ≤ length l → pick b 0 1 + changed_in l ≤ suc (length l)
     go true h = omega arith
     go false h = omega arith
-
-pub correcting_none : (block degrees values : List ℕ) (count : ℕ) → length block ≡ 204 → Correcting block block degrees values count 0 0
-correcting_none block degrees values count n = record { most = omega arith; len = n; rest = refl; total = zero-add _ }
 
 module _ (start block degrees values : List ℕ) (count changed l : ℕ) (n : length degrees ≡ 16) (m : length values ≡ 16) (b : count ≤ 16) (h : l < count)
     (c : Correcting start block degrees values count changed l) where

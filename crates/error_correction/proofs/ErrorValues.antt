@@ -3,7 +3,6 @@
 use mathlib.Core.Path.{◌≡◌, refl, sym, ap, ap₂, ◌∙◌, subst}
 use mathlib.Core.List.{List, [], ◌∷◌, ◌++◌, map}
 use Prim.Native.Nat.{ℕ, zero, suc, ◌+◌, ◌-◌, ◌≤◌, ◌<◌, Fin}
-use native.Mathlib.Nat.{zero-add}
 use native.Mathlib.Numerals.{add-one}
 use native.Mathlib.Decide.{dec_lt}
 use native.Mathlib.Omega.{arith}
@@ -21,7 +20,7 @@ use Rattle.galois.proofs.Laws.{mul_lt, mul_zero_right, mul_comm}
 use Rattle.galois.proofs.Instance.{bytes, byte, byte_zero, byte_one, byte_add, byte_mul, byte_inv}
 use Rattle.galois.specs.Lanes.{products_of, horner_step}
 use Rattle.galois.proofs.Elements.{elements}
-use Rattle.error_correction.specs.Correction.{monic, RootProduct, quotient_by, numerator_at, denominator_at, FractionsAt, error_value, ErrorValues}
+use Rattle.error_correction.specs.Correction.{monic, quotient_by, FractionsAt, error_value, ErrorValues}
 use Rattle.galois.proofs.Words.{elements_plus, elements_scale, length-sum, sum_at}
 use Rattle.galois.proofs.LanePowers.{length_advanced, advanced_at, eval_from}
 use Rattle.galois.proofs.Words.{length_products, products_at}
@@ -191,15 +190,6 @@ module _ (rs p : List ℕ) (l : ℕ) (few : length rs ≤ 16) (m : Multiplied rs
           let n : suc (l - 1) ≡ l = omega arith in
           drop-cons rs (l - 1) 0 (omega (arith, m.most)) ∙ ap (λ (k : ℕ). c ∷ drop k rs) n
 
-pub multiplied_all : (rs p : List ℕ) (l : ℕ) → l ≤ 0 → Multiplied rs p l → RootProduct rs p
-multiplied_all rs p l h m =
-    let z : l ≡ 0 = omega arith in
-    let n : length rs - l ≡ length rs = omega arith in
-    record {
-      values = λ y. ap (λ (k : ℕ). eval (ops bytes) (elements (monic k p)) y) (sym n) ∙ m.values y
-          ∙ ap (λ (k : ℕ). eval (ops bytes) (from_roots bytes (elements (drop k rs))) y) z;
-    }
-
 -- ---- the value of one error
 
 -- a is coefficient k - 1 of the quotient before the next step, u and v the sums from coefficient k on
@@ -294,18 +284,6 @@ module _ (p s : List ℕ) (y n : ℕ) (nine : length p ≡ suc n) where
         there : (i : ℕ) → k + i ≡ k - 1 + suc i
         there i = omega arith
 
-  -- the sums over all coefficients
-  all_numerator : (a u v k : ℕ) → k ≤ 0 → Summed p s y a u v k → byte u ≡ numerator_at p s y
-  all_numerator a u v k h m =
-      let z : k ≡ 0 = omega arith in
-      m.numerator ∙ ap (λ (j : ℕ). dot bytes (drop j quot) (λ i. byte (get_or s (j + i) 0))) z
-      ∙ dot_ext bytes quot (λ i. byte (get_or s (0 + i) 0)) (λ i. byte (get_or s i 0)) (λ i b. ap (λ (j : ℕ). byte (get_or s j 0)) (zero-add i))
-
-  all_denominator : (a u v k : ℕ) → k ≤ 0 → Summed p s y a u v k → byte v ≡ denominator_at p y
-  all_denominator a u v k h m =
-      let z : k ≡ 0 = omega arith in
-      m.denominator ∙ ap (λ (j : ℕ). eval (ops bytes) (drop j quot) (byte y)) z
-
 -- ---- sixteen at once
 
 -- the sums of each place
@@ -390,15 +368,6 @@ module _ (p s places : List ℕ) (n : ℕ) (size : length p ≡ suc n) (o : leng
         subst (λ (b : List ℕ). SummedLanes p s places b w v' (k - 1)) (sym f)
         (subst (λ (b : List ℕ). SummedLanes p s places next_coefficients b v' (k - 1)) (sym g)
         (subst (λ (b : List ℕ). SummedLanes p s places next_coefficients next_numerators b (k - 1)) (sym h) lanes_next))
-
-  pub lanes_all : (a u v : List ℕ) (k : ℕ) → k ≤ 0 → SummedLanes p s places a u v k → FractionsAt p s places u v
-  lanes_all a u v k h m =
-      record {
-        numerators_length = m.numerators;
-        denominators_length = m.denominators;
-        numerator = λ l i. all_numerator p s (get_or places l 0) n size _ _ _ k h (m.each l i);
-        denominator = λ l i. all_denominator p s (get_or places l 0) n size _ _ _ k h (m.each l i);
-      }
 
 -- the value of an error from its fraction: lane l of the products by the inverses
 module _ (p s places u v w r : List ℕ) (f : FractionsAt p s places u v) (e : w ≡ map inv v) (g : r ≡ products_of u w) where

@@ -4,18 +4,16 @@ use mathlib.Core.Path.{◌≡◌, refl, sym, ap, ap₂, ◌∙◌, subst}
 use mathlib.Core.List.{List, [], ◌∷◌, ◌++◌, map, append_assoc, append-nil}
 use Prim.Native.Nat.{ℕ, zero, suc, ◌+◌, ◌-◌, ◌≤◌, ◌<◌, Fin}
 use Prim.{tt}
-use native.Mathlib.Nat.{zero-add, add-zero, eq-or-lt_of_le}
+use native.Mathlib.Nat.{zero-add, add-zero}
 use native.Mathlib.Numerals.{add-one}
 use native.Mathlib.Decide.{ℕ_discrete}
 use native.Mathlib.Omega.{arith}
 use borrow.Author.Tests.{eq-eqb, ne_eqb}
 use lib.Dec.{eqb, lit<}
-use lib.ListN.{length, get_or, take, drop, set, replicate, length-append, length-take, length-drop, length-set, take-append-drop, get_or-eq_default}
+use lib.ListN.{length, get_or, take, drop, set, replicate, length-append, length-take, length-drop, length-set, take-append-drop}
 use lib.Seq.{get_or-take, get_or-drop, take-suc, take-suc-set, take_all, take-add, length-take-le, ext_get_or}
-use mathlib.Core.Bool.{Bool, true, false}
-use mir.Val.{bool_byte}
-use mathlib.Core.Logic.{⊎_elim}
-use Rattle.common.specs.Choice.{pick, indicator}
+use mathlib.Core.Bool.{Bool}
+use Rattle.common.specs.Choice.{pick}
 use Rattle.common.proofs.Lists.{length_list_of, get_d_list_of, zeros_at}
 use Rattle.algebra.specs.Field.{ops}
 use Rattle.algebra.specs.Polynomial.{eval}
@@ -46,23 +44,9 @@ eval_cut zero p y h = eval_zeros p y h
 eval_cut (suc n) [] y h = refl
 eval_cut (suc n) (a ∷ p) y h = ap (λ (u : Fin 256). bytes.add (byte a) (bytes.mul y u)) (eval_cut n p y (λ k l. h (suc k) (omega arith)))
 
--- the search for the last coefficient that is not zero
-pub ends_none : (q : List ℕ) → EndsAt (take 9 q) 8
-ends_none q = record { most = omega arith; zeros = λ i h. get_or-eq_default (take 9 q) 0 {n = i} (omega (arith, length-take 9 q)) }
-
-pub ends_less : (q : List ℕ) (d : ℕ) → 0 < d → get_or q d 0 ≡ 0 → EndsAt (take 9 q) d → EndsAt (take 9 q) (d - 1)
-ends_less q d h z e = record { most = omega (arith, e.most); zeros = λ i l. go i l (ℕ_discrete i d) }
-  where
-    go : (i : ℕ) → d - 1 < i → Dec (i ≡ d) → get_or (take 9 q) i 0 ≡ 0
-    go i l (yes p) = ap (λ (j : ℕ). get_or (take 9 q) j 0) p ∙ get_or-take 9 q d 0 (omega (arith, e.most)) ∙ z
-    go i l (no p) = e.zeros i (omega arith)
-
 -- the coefficients up to the degree, of nine
 pub ends_of : (q : List ℕ) (d : ℕ) → length q ≡ 9 → EndsAt (take 9 q) d → EndsAt q d
 ends_of q d n e = subst (λ (l : List ℕ). EndsAt l d) (take_all 9 q (omega arith)) e
-
-pub length_prefix : (q : List ℕ) (d : ℕ) → length q ≡ 9 → EndsAt (take 9 q) d → length (take (d + 1) q) ≡ d + 1
-length_prefix q d n e = length-take-le (d + 1) q (omega (arith, e.most))
 
 -- ---- sixteen values
 
@@ -177,12 +161,6 @@ unfolding zeros_from
 listed_none degrees places count v x i a b =
     record { degrees_len = a; places_len = b; all = record { number = omega arith; listed = sym (append-nil (take count degrees)); placed = sym (append-nil (take count places)) } }
 
-pub listed_as : {degrees places : List ℕ} {count : ℕ} {v x : List ℕ} {i : ℕ} {d e p q : List ℕ} {m n l : ℕ} → d ≡ e → p ≡ q → m ≡ n
-    → ListedTo degrees places count v x i e q n l → ListedTo degrees places count v x i d p m l
-listed_as {degrees} {places} {count} {v} {x} {i} {d} {e} {p} {q} {m} {n} {l} a b c s =
-    subst (λ (u : List ℕ). ListedTo degrees places count v x i u p m l) (sym a)
-    (subst (λ (u : List ℕ). ListedTo degrees places count v x i e u m l) (sym b) (subst (λ (u : ℕ). ListedTo degrees places count v x i e q u l) (sym c) s))
-
 module _ (degrees places : List ℕ) (count : ℕ) (v x : List ℕ) (i : ℕ) (degrees' places' : List ℕ) (count' l : ℕ) (s : ListedTo degrees places count v x i degrees' places' count' l) where
   -- the same list of zeros
   same : zeros_from i (take l v) ≡ zeros_from i (take (l + 1) v) → ListedTo degrees places count v x i degrees' places' count' (l + 1)
@@ -236,9 +214,6 @@ module _ (degrees places : List ℕ) (count : ℕ) (v x : List ℕ) (i : ℕ) (d
       where
         place : l ≡ i + l - i
         place = omega arith
-
-  pub listed_all : length v ≤ l → Listed degrees places count v x i degrees' places' count'
-  listed_all h = subst (λ (m : List ℕ). Listed degrees places count m x i degrees' places' count') (take_all l v h) s.all
 
 -- ---- the loop over all places
 
@@ -308,15 +283,6 @@ module _ (u q degrees places : List ℕ) (count i : ℕ) (s : Searched u q degre
       e : zeros_from 0 (take i (values_of u q)) ≡ roots_of u q
       e = sym (append-nil (zeros_from 0 (take i (values_of u q)))) ∙ ap (λ (l : List ℕ). zeros_from 0 (take i (values_of u q)) ++ l) (sym none) ∙ sym whole
 
--- where there is no root nothing is listed
-pub found_none : (u q degrees places : List ℕ) (count : ℕ) → length (roots_of u q) ≡ count → count ≡ 0 → FoundRoots u q degrees places count
-found_none u q degrees places count n z =
-    record {
-      number = sym n;
-      listed = ap (λ (k : ℕ). take k degrees) z ∙ sym (empty (roots_of u q) (n ∙ z));
-      placed = ap (λ (k : ℕ). take k places) z ∙ sym (ap (map (pow 2)) (empty (roots_of u q) (n ∙ z)));
-    }
-
 -- ---- sixteen lanes none of which is zero
 
 zeros_none : (i : ℕ) (l : List ℕ) → ((j : ℕ) → j < length l → get_or l j 0 ≡ 0 → ⊥) → zeros_from i l ≡ []
@@ -335,30 +301,8 @@ listed_nothing degrees places count v x i n z =
       placed = rw e (sym (append-nil (take count places)));
     }
 
--- a comparison as a byte
-pub byte_is : (b : Bool) → (bool_byte b ≡ indicator b) × (bool_byte b ≤ 1)
-byte_is true = (refl, omega arith)
-byte_is false = (refl, omega arith)
-
 -- the zeros among the first j lanes, counted
 pub record Counted (v : List ℕ) (n j : ℕ) : Type 0 where
   pub most : j ≤ 16
   pub few : n ≤ j
   pub none : n ≡ 0 → (k : ℕ) → k < j → get_or v k 0 ≡ 0 → ⊥
-
-pub counted_none : (v : List ℕ) → Counted v 0 0
-counted_none v = record { most = omega arith; few = omega arith; none = λ e k h. absurd (omega arith) }
-
-pub counted_more : (v : List ℕ) (n j r : ℕ) → Counted v n j → j < 16 → r ≡ indicator (eqb (get_or v j 0) 0) → r ≤ 1 → Counted v (n + r) (j + 1)
-counted_more v n j r c h e s = record { most = omega arith; few = omega (arith, c.few); none = λ z k l q. ⊎_elim (own z k q) (earlier z k q) (eq-or-lt_of_le (le k l)) }
-  where
-    le : (k : ℕ) → k < j + 1 → k ≤ j
-    le k l = omega arith
-
-    own : n + r ≡ 0 → (k : ℕ) → get_or v k 0 ≡ 0 → k ≡ j → ⊥
-    own z k q a =
-        let one : r ≡ 1 = e ∙ ap indicator (eq-eqb (get_or v j 0) 0 (sym (ap (λ (m : ℕ). get_or v m 0) a) ∙ q)) in
-        absurd (omega (arith, one, z))
-
-    earlier : n + r ≡ 0 → (k : ℕ) → get_or v k 0 ≡ 0 → k < j → ⊥
-    earlier z k q l = c.none (omega (arith, z)) k l q

@@ -10,11 +10,21 @@ ghost use Rattle.galois.proofs.Elements.{elements};
 ghost use Rattle.error_correction.specs.Correction.{EndsAt, Unmarked, ByDegree, masked, Masked, zeros_from, NoZero, Listed, roots_of, one_polynomial, FoundRoots, monic, RootProduct, FractionsAt, ErrorValues, corrected_by, changed_in};
 
 // The degrees of the erasures and those at which the locator vanishes, in order, their places, and how many they are. The places after them are zero.
+// Arrays with a count: there are at most sixteen, no memory is taken for them, and the sums over the places go over all sixteen lanes at once.
 #[derive(Clone, Copy)]
 pub struct Roots {
     pub degrees: [u8; 16],
     pub places: [u8; 16],
     pub count: usize,
+}
+
+impl Roots {
+    // No root yet.
+    const NONE: Roots = Roots {
+        degrees: [0; 16],
+        places: [0; 16],
+        count: 0,
+    };
 }
 
 // The marks of a block by degree, and four zeros; count says how many bytes are marked.
@@ -26,10 +36,8 @@ pub fn by_degree(marks: &[u8], count: usize) -> [u8; 208]
     if count == 0 {
         return u;
     }
-    let mut d: usize = 0;
-    while d < 204 {
+    for d in 0..204 {
         u[d] = marks[203 - d];
-        d += 1;
     }
     u
 }
@@ -38,23 +46,14 @@ pub fn by_degree(marks: &[u8], count: usize) -> [u8; 208]
 fn masked_value(m: u8, v: u8) -> u8
     ensures { result ≡ masked m v }
 {
-    if m == 0 {
-        return v;
-    }
-    0
+    if m == 0 { v } else { 0 }
 }
 
 // The same, lane by lane.
 fn masked_values(m: [u8; 16], v: [u8; 16]) -> [u8; 16]
     ensures { Masked m v result }
 {
-    let mut w = [0u8; 16];
-    let mut j: usize = 0;
-    while j < 16 {
-        w[j] = masked_value(m[j], v[j]);
-        j += 1;
-    }
-    w
+    common::array_of(|j| masked_value(m[j], v[j]))
 }
 
 // Sixteen values from degree i on, and zero at the erasures; f says how many there are, and without any the values stay.
@@ -65,7 +64,7 @@ fn with_erasures(u: &[u8], f: usize, i: usize, v: [u8; 16]) -> [u8; 16]
     if f == 0 {
         return v;
     }
-    masked_values(galois::lanes::sixteen(u, i), v)
+    masked_values(common::array_at(u, i), v)
 }
 
 // The degree of a polynomial of nine coefficients, and 0 of the zero polynomial.
@@ -73,51 +72,34 @@ fn degree(q: &[u8]) -> usize
     requires { 9 ≤ length q.now }
     ensures { EndsAt (take 9 q.now) result × (0 < result → get_or q.now result 0 ≡ 0 → ⊥) }
 {
-    let mut d: usize = 8;
-    while 0 < d {
+    for d in (1..9).rev() {
         if q[d] != 0 {
             return d;
         }
-        d -= 1;
     }
-    d
+    0
 }
 
 // Roots found so far, and those among sixteen places more: v has the values at the places x, of which the first is that of degree i.
 // Degrees from 204 on are not sent.
-fn list_zeros(
-    degrees: [u8; 16],
-    places: [u8; 16],
-    count: usize,
-    v: [u8; 16],
-    x: [u8; 16],
-    i: u8,
-) -> Roots
-    requires { (i ≤ 204) × (count + length (zeros_from i (take (204 - i) v)) ≤ 16) }
-    ensures { Listed degrees places count (take (204 - i) v) x i result.degrees result.places result.count }
+fn list_zeros(roots: Roots, v: [u8; 16], x: [u8; 16], i: u8) -> Roots
+    requires { (i ≤ 204) × (roots.count + length (zeros_from i (take (204 - i) v)) ≤ 16) }
+    ensures { Listed roots.degrees roots.places roots.count (take (204 - i) v) x i result.degrees result.places result.count }
 {
-    let mut degrees = degrees;
-    let mut places = places;
-    let mut count = count;
-    let mut l: u8 = 0;
-    while l < 16 {
+    let mut listed = roots;
+    for l in 0..16u8 {
         let at = l as usize;
         let d = i + l;
         let within = d < 204;
         if within {
             if v[at] == 0 {
-                degrees[count] = d;
-                places[count] = x[at];
-                count += 1;
+                listed.degrees[listed.count] = d;
+                listed.places[listed.count] = x[at];
+                listed.count += 1;
             }
         }
-        l += 1;
     }
-    Roots {
-        degrees,
-        places,
-        count,
-    }
+    listed
 }
 
 // 1 for a lane that is zero, else 0.
@@ -132,10 +114,8 @@ fn zero_lanes(v: [u8; 16]) -> u8
     ensures { result ≡ 0 → NoZero v }
 {
     let mut n: u8 = 0;
-    let mut j: usize = 0;
-    while j < 16 {
+    for j in 0..16 {
         n += is_zero(v[j]);
-        j += 1;
     }
     n
 }
@@ -155,29 +135,20 @@ pub fn find_roots(u: &[u8], f: usize, q: [u8; 9]) -> Roots
     let d = degree(&q);
     let end = d + 1;
     let most = f + d;
-    let degrees = [0u8; 16];
-    let places = [0u8; 16];
-    let mut found = Roots {
-        degrees,
-        places,
-        count: 0,
-    };
+    let mut found = Roots::NONE;
     let mut x = galois::lanes::first_powers();
-    let mut i: u8 = 0;
-    while i < 208 {
+    for turn in 0..13u8 {
         if found.count == most {
             return found;
         }
+        let i = 16 * turn;
         let v = with_erasures(u, f, i as usize, galois::lanes::evaluate(&q[..end], x));
         if zero_lanes(v) != 0 {
-            let degrees = found.degrees;
-            let places = found.places;
-            let r = list_zeros(degrees, places, found.count, v, x, i);
+            let r = list_zeros(found, v, x, i);
             found = r;
         }
         let y = galois::lanes::next_powers(x);
         x = y;
-        i += 16;
     }
     found
 }
@@ -188,13 +159,7 @@ pub fn find_erasures(u: &[u8], count: usize) -> Roots
     ensures { FoundRoots u.now one_polynomial result.degrees result.places count }
 {
     if count == 0 {
-        let degrees = [0u8; 16];
-        let places = [0u8; 16];
-        return Roots {
-            degrees,
-            places,
-            count: 0,
-        };
+        return Roots::NONE;
     }
     find_roots(u, count, [1, 0, 0, 0, 0, 0, 0, 0, 0])
 }
@@ -204,25 +169,19 @@ fn raised(p: [u8; 16]) -> [u8; 16]
     ensures { result ≡ 0 ∷ take 15 p }
 {
     let mut r = [0u8; 16];
-    let mut j: usize = 0;
-    while j < 15 {
-        r[j + 1] = p[j];
-        j += 1;
-    }
+    r[1..].copy_from_slice(&p[..15]);
     r
 }
 
 // The locator of errors and erasures: the product of x + r over their places r, without its highest coefficient, which is 1 and may not find room. Over the
 // places of erasures alone it is the erasure locator.
-pub fn root_product(places: [u8; 16], count: usize) -> [u8; 16]
-    requires { count ≤ 16 }
-    ensures { RootProduct (take count places) result }
+pub fn root_product(places: &[u8]) -> [u8; 16]
+    requires { length places.now ≤ 16 }
+    ensures { RootProduct places.now result }
 {
     let mut p = [0u8; 16];
     p[0] = 1;
-    let mut l: usize = count;
-    while 0 < l {
-        l -= 1;
+    for l in (0..places.len()).rev() {
         let q = galois::lanes::sum(galois::lanes::scale(p, places[l]), raised(p));
         p = q;
     }
@@ -245,9 +204,7 @@ fn value_fractions(p: [u8; 16], degree: usize, s: [u8; 16], places: [u8; 16]) ->
     let mut numerators = [0u8; 16];
     let mut denominators = [0u8; 16];
     let mut top: u8 = 1;
-    let mut k = degree;
-    while 0 < k {
-        k -= 1;
+    for k in (0..degree).rev() {
         let c = galois::lanes::sum(galois::lanes::products(places, coefficients), [top; 16]);
         let n = galois::lanes::sum(galois::lanes::scale(c, s[k]), numerators);
         let d = galois::lanes::sum(galois::lanes::products(places, denominators), c);
@@ -263,43 +220,37 @@ fn value_fractions(p: [u8; 16], degree: usize, s: [u8; 16], places: [u8; 16]) ->
 }
 
 // The values of the errors at the places, which are roots of p, by Forney's formula, and zeros after them. That of one error alone is the first syndrome.
-pub fn error_values(p: [u8; 16], s: [u8; 16], places: [u8; 16], count: usize) -> [u8; 16]
-    requires { count ≤ 16 }
-    ensures { ErrorValues p s places count result }
+pub fn error_values(p: [u8; 16], s: [u8; 16], roots: Roots) -> [u8; 16]
+    requires { roots.count ≤ 16 }
+    ensures { ErrorValues p s roots.places roots.count result }
 {
     let mut e = [0u8; 16];
-    if count == 1 {
+    if roots.count == 1 {
         e[0] = s[0];
         return e;
     }
-    let f = value_fractions(p, count, s, places);
-    let numerators = f.numerators;
-    let denominators = f.denominators;
-    let values = galois::lanes::products(numerators, galois::lanes::inverses(denominators));
-    let mut l: usize = 0;
-    while l < count {
+    let f = value_fractions(p, roots.count, s, roots.places);
+    let values = galois::lanes::products(f.numerators, galois::lanes::inverses(f.denominators));
+    for l in 0..roots.count {
         e[l] = values[l];
-        l += 1;
     }
     e
 }
 
 // Takes the errors away, and counts those that are not zero.
-pub fn correct(block: &mut [u8], degrees: [u8; 16], values: [u8; 16], count: usize) -> u8
-    requires { (length block.old ≡ 204) × (count ≤ 16) × ((l : ℕ) → l < count → get_or degrees l 0 < 204) }
-    ensures { (result ≡ changed_in (take count values))
-        × (block.new ≡ corrected_by block.old (take count degrees) (take count values)) }
+pub fn correct(block: &mut [u8], roots: Roots, values: [u8; 16]) -> u8
+    requires { (length block.old ≡ 204) × (roots.count ≤ 16) × ((l : ℕ) → l < roots.count → get_or roots.degrees l 0 < 204) }
+    ensures { (result ≡ changed_in (take roots.count values))
+        × (block.new ≡ corrected_by block.old (take roots.count roots.degrees) (take roots.count values)) }
 {
     let mut changed: u8 = 0;
-    let mut l: usize = 0;
-    while l < count {
-        let at = 203 - degrees[l] as usize;
+    for l in 0..roots.count {
+        let at = 203 - roots.degrees[l] as usize;
         let e = values[l];
-        block[at] = block[at] ^ e;
+        block[at] ^= e;
         if e != 0 {
             changed += 1;
         }
-        l += 1;
     }
     changed
 }

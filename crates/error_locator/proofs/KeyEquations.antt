@@ -1,7 +1,7 @@
 -- The steps of the elimination that finds the locator, on eight rows of sixteen bytes.
 -- Assumes nothing.
-use mathlib.Core.Path.{◌≡◌, refl, sym, ap, ap₂, ◌∙◌, subst}
-use mathlib.Core.Bool.{true, false}
+use mathlib.Core.Path.{◌≡◌, refl, sym, ap, ap₂, ◌∙◌}
+use mathlib.Core.Bool.{true}
 use mathlib.Core.List.{List, ◌++◌}
 use mathlib.Core.Logic.{◌⊎◌, inl, inr}
 use Prim.Native.Nat.{ℕ, ◌+◌, ◌*◌, ◌<◌, ◌≤◌, Fin}
@@ -15,7 +15,7 @@ use lib.Seq.{get_or-take, get_or-drop, length-take-le}
 use Rattle.common.proofs.Lists.{get_d_map_in, put_own, put_other}
 use Rattle.algebra.specs.Polynomial.{plus, scale}
 use Rattle.algebra.proofs.Ring.{zero_add, one_mul, mul_comm, mul_ne}
-use Rattle.algebra.proofs.Elimination.{CombineRow, MulRow, Reach, Vector, Sol, solves, kernel_key, kernel_nonzero, sum_ext, reach_combine, reach_mul, diagonal_combine, diagonal_more, swept_none, swept_skip, swept_row, combine_fewer, mul_fewer}
+use Rattle.algebra.proofs.Elimination.{CombineRow, MulRow, Reach, Vector, Sol, solves, kernel_key, kernel_nonzero, sum_ext, reach_combine, reach_mul, diagonal_combine, diagonal_more, swept_skip, swept_row, combine_fewer, mul_fewer}
 use Rattle.galois.specs.Field256.{numbers, mul, scaled}
 use Rattle.galois.proofs.Instance.{bytes, byte, byte_inj, byte_zero, byte_one, byte_add, byte_mul}
 use Rattle.galois.proofs.Words.{length-sum, sum_at, length_products, products_at, length_scaled}
@@ -130,9 +130,6 @@ pub record Looked (m : List ℕ) (size k p : ℕ) : Type 0 where
   pub most : p ≤ size
   pub zeros : (r : ℕ) → k ≤ r → r < p → mat m r k ≡ bytes.𝟘
 
-pub looked_start : (m : List ℕ) (size k : ℕ) → k < size → Looked m size k k
-looked_start m size k l = record { from = omega arith; most = omega arith; zeros = λ r a b. absurd (omega arith) }
-
 pub looked_step : (m : List ℕ) (size k p : ℕ) → p < size → get_or m (p * 16 + k) 0 ≡ 0 → Looked m size k p → Looked m size k (p + 1)
 looked_step m size k p l e U = record { from = omega arith; most = omega arith; zeros = λ r a b. go r a b (ℕ_discrete r p) }
   where
@@ -143,13 +140,7 @@ looked_step m size k p l e U = record { from = omega arith; most = omega arith; 
 pub looked_found : (m : List ℕ) (size k p : ℕ) → get_or m (p * 16 + k) 0 < 256 → (get_or m (p * 16 + k) 0 ≡ 0 → ⊥) → Looked m size k p → FirstPivot m size k p
 looked_found m size k p b n U = record { from = U.from; most = U.most; zeros = U.zeros; pivot = λ l e. n (byte_inj (get_or m (p * 16 + k) 0) 0 b (lit< tt) (e ∙ sym byte_zero)) }
 
-pub looked_none : (m : List ℕ) (size k p : ℕ) → size ≤ p → Looked m size k p → FirstPivot m size k p
-looked_none m size k p h U = record { from = U.from; most = U.most; zeros = U.zeros; pivot = λ l. absurd (omega arith) }
-
 -- ---- the pivot
-
-pub pivoted_same : (m : List ℕ) (size k p : ℕ) → p ≡ k → p < size → length m ≡ 128 → FirstPivot m size k p → Pivoted m m size k true
-pivoted_same m size k p e l len F = record { len = len; reach = λ v s. s; diagonal = λ d D. D; outcome = λ z. F.pivot l (ap (λ r. mat m r k) e ∙ z) }
 
 pub pivoted_add : (m n : List ℕ) (size k p : ℕ) → size ≤ 8 → (p ≡ k → ⊥) → p < size → length n ≡ 128 → FirstPivot m size k p
     → CombineRow bytes 8 9 k p bytes.𝟙 bytes.𝟙 (mat m) (mat n) → Pivoted m n size k true
@@ -169,13 +160,7 @@ pivoted_add m n size k p z ne l len F A = record {
         ∙ ap₂ bytes.add (one_mul bytes (mat m k k) ∙ F.zeros k (omega arith) (omega (arith, F.from))) (one_mul bytes (mat m p k))
         ∙ zero_add bytes (mat m p k)
 
-pub pivoted_none : (m : List ℕ) (size k p : ℕ) → p ≡ size → length m ≡ 128 → FirstPivot m size k p → Pivoted m m size k false
-pivoted_none m size k p e len F = record { len = len; reach = λ v s. s; diagonal = λ d D. D; outcome = λ r a b. F.zeros r a (omega arith) }
-
 -- ---- the column cleared
-
-pub cleared_start : (m : List ℕ) (size k : ℕ) → length m ≡ 128 → Cleared m m size k 0
-cleared_start m size k len = record { len = len; most = omega arith; reach = λ v s. s; swept = swept_none bytes size 9 k (mat m) }
 
 pub cleared_skip : (o m : List ℕ) (size k i : ℕ) → i < size → i ≡ k → Cleared o m size k i → Cleared o m size k (i + 1)
 cleared_skip o m size k i l e C = record { len = C.len; most = omega arith; reach = C.reach; swept = rw add-one (swept_skip bytes size 9 k i (mat o) (mat m) e C.swept) }
@@ -191,9 +176,6 @@ cleared_step_lem o m n size k i z li lk ne nz len A C = record {
   where
     few : CombineRow bytes size 9 i k (mat o k k) (mat m i k) (mat m) (mat n)
     few = combine_fewer bytes size 8 9 i k (mat o k k) (mat m i k) (mat m) (mat n) z A
-
-pub cleared_done : (o m : List ℕ) (size k i : ℕ) → size ≤ i → Cleared o m size k i → Cleared o m size k size
-cleared_done o m size k i h C = let e : i ≡ size = omega (arith, C.most) in subst (Cleared o m size k) e C
 
 -- ---- all columns
 
@@ -220,16 +202,6 @@ kept_more o m n p q size k d e z l P Q C len A f = record {
     element : e ≡ bytes.mul d (mat n k k)
     element = f ∙ A.row k (omega arith) ∙ ap (λ u. bytes.mul d u) (C.swept.own k (omega arith))
 
-pub eliminated : (o m n : List ℕ) (size k : ℕ) (d : Fin 256) → k < size → Reduced o m size k d → Pivoted m n size k false → Eliminated o n size k d
-eliminated o m n size k d l P Q = record {
-  kept = record { len = Q.len; reach = λ v s. P.reach v (Q.reach v s); diagonal = Q.diagonal d P.diagonal; nonzero = P.nonzero };
-  most = omega arith;
-  none = Q.outcome;
-}
-
-pub eliminated_all : (o m : List ℕ) (size k : ℕ) (d : Fin 256) → size ≤ k → k ≤ size → Reduced o m size k d → Eliminated o m size k d
-eliminated_all o m size k d h l P = record { kept = P; most = l; none = λ r a b. absurd (omega arith) }
-
 -- ---- the matrix of the key equations, and the solution read from it
 
 -- the first i rows are filled in
@@ -237,36 +209,6 @@ pub record FilledTo (s m : List ℕ) (size i : ℕ) : Type 0 where
   pub most : i ≤ size
   pub len : length m ≡ 128
   pub each : (r c : ℕ) → r < i → c < 9 → get_or m (r * 16 + c) 0 ≡ get_or s (r + c) 0
-
-pub filled_none : (s m : List ℕ) (size : ℕ) → length m ≡ 128 → FilledTo s m size 0
-filled_none s m size l = record { most = omega arith; len = l; each = λ r c b h. absurd (omega arith) }
-
-pub filled_more : (s m row n : List ℕ) (size i : ℕ) → length s ≡ 16 → size ≤ 8 → i < size → row ≡ take 9 (drop i s)
-    → n ≡ take (i * 16) m ++ row ++ drop (i * 16 + length row) m → length n ≡ length m → FilledTo s m size i → FilledTo s n size (i + 1)
-filled_more s m row n size i ls lz l e w z F = record { most = omega arith; len = z ∙ F.len; each = λ r c b h. ap (λ (x : List ℕ). get_or x (r * 16 + c) 0) w ∙ go r c b h (ℕ_discrete r i) }
-  where
-    nine : length row ≡ 9
-    nine = ap length e ∙ length-take-le 9 (drop i s) (omega (arith, length-drop i s))
-
-    fits : i * 16 + length row ≤ length m
-    fits = omega (arith, nine, F.len)
-
-    go : (r c : ℕ) → r < i + 1 → c < 9 → Dec (r ≡ i) → get_or (take (i * 16) m ++ row ++ drop (i * 16 + length row) m) (r * 16 + c) 0 ≡ get_or s (r + c) 0
-    go r c b h (yes p) =
-        ap (λ (u : ℕ). get_or (take (i * 16) m ++ row ++ drop (i * 16 + length row) m) (u * 16 + c) 0) p
-        ∙ put_own m row (i * 16) c fits (omega (arith, nine))
-        ∙ ap (λ (x : List ℕ). get_or x c 0) e ∙ get_or-take 9 (drop i s) c 0 h ∙ get_or-drop i s c 0
-        ∙ ap (λ (u : ℕ). get_or s (u + c) 0) (sym p)
-    go r c b h (no p) = put_other m row (i * 16) (r * 16 + c) fits (omega (arith, F.len)) (inl (omega arith)) ∙ F.each r c (omega arith) h
-
-pub filled_all : (s m : List ℕ) (size i : ℕ) → size ≤ i → FilledTo s m size i → Filled s size m
-filled_all s m size i h F = record { len = F.len; each = λ r c a b. F.each r c (omega (arith, F.most)) b }
-
-pub solution_below : (m : List ℕ) (k d c : ℕ) → c < k → SolutionAt m k d c (get_or m (c * 16 + k) 0)
-solution_below m k d c l = record { below = λ b. refl; own = λ b. absurd (omega arith); above = λ b. absurd (omega arith) }
-
-pub solution_own : (m : List ℕ) (k d c : ℕ) → c ≡ k → SolutionAt m k d c d
-solution_own m k d c e = record { below = λ b. absurd (omega arith); own = λ b. refl; above = λ b. absurd (omega arith) }
 
 pub solution_above : (m : List ℕ) (k d c : ℕ) → k ≤ c → (c ≡ k → ⊥) → SolutionAt m k d c 0
 solution_above m k d c l n = record { below = λ b. absurd (omega arith); own = λ b. absurd (n b); above = λ b. byte_zero }

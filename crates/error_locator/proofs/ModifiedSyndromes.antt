@@ -17,7 +17,7 @@ use Rattle.galois.specs.Field256.{numbers, mul, scaled}
 use Rattle.galois.proofs.Instance.{bytes, byte, byte_add, byte_mul}
 use Rattle.galois.proofs.Elements.{elements}
 use Rattle.galois.proofs.Words.{length-sum, sum_at}
-use Rattle.error_locator.specs.Locator.{Lowered, Modified}
+use Rattle.error_locator.specs.Locator.{Lowered}
 
 module _ (K : Field) where
   open K use {F, add as ◌⊕◌, mul as ◌⊗◌, 𝟘, 𝟙}
@@ -82,10 +82,3 @@ module _ (s rs t low : List ℕ) (l : ℕ) (more : 0 < l) (n : length low ≡ 16
 
   pub modified_more : ModifiedTo s rs next (l - 1)
   modified_more = record { most = omega (arith, m.most); len = length-sum (scaled r t) low (scaled_len ∙ sym n) ∙ scaled_len; each = one }
-
-pub modified_all : (s rs t : List ℕ) (l : ℕ) → l ≤ 0 → ModifiedTo s rs t l → Modified s rs t
-modified_all s rs t l h m =
-    let z : l ≡ 0 = omega arith in
-    record {
-      each = λ j b. m.each j (omega arith) ∙ ap (λ (i : ℕ). dot bytes (from_roots bytes (elements (drop i rs))) (λ k. byte (get_or s (j + k) 0))) z;
-    }

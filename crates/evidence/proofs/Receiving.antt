@@ -6,17 +6,15 @@ use mathlib.Core.List.{List, [], ◌∷◌, ◌++◌, append_assoc, flatten}
 use Prim.Native.Nat.{ℕ, zero, suc, ◌+◌, ◌-◌, ◌*◌, ◌≤◌, ◌<◌}
 use Prim.{tt}
 use native.Mathlib.Omega.{arith}
+use Rattle.std.proofs.Common.{Ok}
 use borrow.Author.Tests.{le-ltb}
 use lib.ListN.{length, get_or, take, drop, replicate, length-append, length-replicate, get_or-replicate, get_or-append}
 use lib.Seq.{take_at, length-take-le, get_or-append-add}
 use Rattle.common.specs.Lists.{All}
 use Rattle.common.proofs.Lists.{All-append}
-use Rattle.answer.specs.Number.{number_of}
 use Rattle.reed_solomon.specs.Code.{Codeword, differ, differ_bits, changes, no_change}
-use Rattle.reed_solomon.specs.Decode.{changed_by}
+use Rattle.reed_solomon.specs.Decode.{Decoded, changed_by}
 use Rattle.reed_solomon.specs.declared.Changed.{Changed}
-use Rattle.reed_solomon.specs.declared.Decoded.{Decoded}
-use Rattle.reed_solomon.specs.declared.Decoded.TheVariants.{Corrected}
 use Rattle.reed_solomon.specs.Marks.{no_marks, cost, DecodesMarked}
 use Rattle.reed_solomon.proofs.Laws.{Same, decodes_near_marked}
 use Rattle.reed_solomon.proofs.Marks.{are_marks_none, marks_of_lem}
@@ -28,7 +26,6 @@ use Rattle.interleaver.proofs.Blocks.{length_out}
 use Rattle.receiver.specs.Receive.{fresh_receiver, marks_in, delayed_block, delayed_marks, of_accepted, step_of, state_after, Ready, ReceivesMarked, Receives}
 use Rattle.receiver.specs.Kept.{Kept}
 use Rattle.receiver.specs.declared.Receiver.{Receiver}
-use Rattle.receiver.specs.declared.Received.{Received}
 use Rattle.receiver.proofs.Calls.{state_range, ready_number, ready_state, ready_refusal, changed_is}
 use Rattle.receiver.proofs.MarkDelays.{leave_marks}
 use Rattle.receiver.proofs.Reached.{sound_range, sound_fresh}
@@ -39,10 +36,10 @@ use Rattle.evidence.proofs.Samples.{sample, sample_packet, samples, samples_pack
 use Rattle.evidence.proofs.Sending.{Left}
 
 -- one that refuses everything: a fresh receiver, a block of zeros and room for a packet is no refusal
-pub refusing : (r : Received) (exit : List ℕ) → Receives fresh_receiver (replicate 204 0) (replicate 188 0) r exit
-    → 0 < number_of r.answer → number_of r.answer < 8 → ⊥
+pub refusing : (number : ℕ) (next : Receiver) (exit : List ℕ) → Receives fresh_receiver (replicate 204 0) (replicate 188 0) number next exit
+    → 0 < number → number < 8 → ⊥
 unfolding fresh_receiver
-refusing r exit p h l =
+refusing number next exit p h l =
     let y : Ready fresh_receiver (replicate 204 0) no_marks (replicate 188 0) = record {
       range = sound_range fresh_receiver sound_fresh;
       size = refl;
@@ -50,29 +47,29 @@ refusing r exit p h l =
       enough = omega arith;
       more = omega arith;
     } in
-    let e : number_of r.answer ≡ 9 = p.number ∙ ready_number fresh_receiver (replicate 204 0) no_marks (replicate 188 0) y p.left p.decoded in
+    let e : number ≡ 9 = p.number ∙ ready_number fresh_receiver (replicate 204 0) no_marks (replicate 188 0) y p.left p.decoded in
     omega arith
 
 -- Invented counts of changed bytes and bits: where 2 e + f is at most 16 for some codeword and the block and marks that the branches give,
 -- the counts grow by the bytes and bits in which they differ, and by nothing else.
-pub invented_changes : (s : Receiver) (block marks output : List ℕ) (r : Received) (exit : List ℕ) → ReceivesMarked s block marks output r exit → Ready s block marks output
+pub invented_changes : (s : Receiver) (block marks output : List ℕ) (number : ℕ) (next : Receiver) (exit : List ℕ) → ReceivesMarked s block marks output number next exit → Ready s block marks output
     → 11 ≤ s.counts.taken → (c : List ℕ) → Codeword c → cost (delayed_marks s marks) (delayed_block s block) c ≤ 16
-    → ((r.receiver.counts.changed ≡ s.counts.changed + differ (delayed_block s block) c)
-    × (r.receiver.counts.bits ≡ s.counts.bits + differ_bits (delayed_block s block) c) → ⊥) → ⊥
+    → ((next.counts.changed ≡ s.counts.changed + differ (delayed_block s block) c)
+    × (next.counts.bits ≡ s.counts.bits + differ_bits (delayed_block s block) c) → ⊥) → ⊥
 unfolding state_after
-invented_changes s block marks output r exit p y h c w l n =
+invented_changes s block marks output number next exit p y h c w l n =
     n (
       ap (λ (x : Receiver). x.counts.changed) state ∙ ap (λ (k : ℕ). s.counts.changed + k) (added (λ x. x.bytes) refl),
       ap (λ (x : Receiver). x.counts.bits) state ∙ ap (λ (k : ℕ). s.counts.bits + k) (added (λ x. x.bits) refl),
     )
   where
-    state : r.receiver ≡ state_after s block marks p.left p.decoded
+    state : next ≡ state_after s block marks p.left p.decoded
     state = p.state ∙ ready_state s block marks output y p.left p.decoded
 
     decodes : DecodesMarked (delayed_marks s marks) (delayed_block s block) p.left p.decoded
     decodes = p.decodes (ready_refusal s block marks output y) h
 
-    same : Same p.left c p.decoded (Corrected (changes (delayed_block s block) c))
+    same : Same p.left c p.decoded (Ok (changes (delayed_block s block) c))
     same =
         decodes_near_marked (delayed_marks s marks) (delayed_block s block) c p.left p.decoded (length_out Receiving s.deinterleaver.branches block)
         (leave_marks (marks_in s) marks (state_range s y.range).marks (marks_of_lem marks y.marked)) w l decodes

@@ -5,22 +5,46 @@
 ghost use Rattle.std.specs.Prelude.{◌≡◌, ◌<◌};
 ghost use Rattle.free_start.specs.Lead.{lead_symbols, bits_of_lead};
 
-// The symbols of each rate's lead.
-const LEAD_SYMBOLS: [usize; 5] = [6, 6, 4, 6, 4];
+// The lead of a rate: its symbols, and the bits that they stand for.
+#[derive(Clone, Copy)]
+struct Lead {
+    symbols: usize,
+    bits: u8,
+}
+
+const LEADS: [Lead; 5] = [
+    Lead {
+        symbols: 6,
+        bits: 6,
+    },
+    Lead {
+        symbols: 6,
+        bits: 8,
+    },
+    Lead {
+        symbols: 4,
+        bits: 6,
+    },
+    Lead {
+        symbols: 6,
+        bits: 10,
+    },
+    Lead {
+        symbols: 4,
+        bits: 7,
+    },
+];
 
 pub fn lead_symbols(rate: u8) -> usize
     requires { rate < 5 }
     ensures { result ≡ lead_symbols rate }
 {
-    LEAD_SYMBOLS[rate as usize]
+    LEADS[rate as usize].symbols
 }
-
-// The bits of each rate's lead.
-const LEAD_BITS: [u8; 5] = [6, 8, 6, 10, 7];
 
 pub fn lead_bits(rate: u8) -> u8
     requires { rate < 5 }
     ensures { result ≡ bits_of_lead rate }
 {
-    LEAD_BITS[rate as usize]
+    LEADS[rate as usize].bits
 }

@@ -2,16 +2,14 @@
 -- Assumes nothing.
 use mathlib.Core.Path.{◌≡◌, refl, sym, ap, ap₂, ◌∙◌}
 use mathlib.Core.List.{List, [], ◌∷◌, ◌++◌, map, reverse, reverse-cons}
-use Prim.Native.Nat.{ℕ, zero, suc, ◌+◌, ◌≤◌, ◌<◌, Fin}
+use Prim.Native.Nat.{ℕ, zero, suc, ◌<◌, Fin}
 use Prim.{tt}
 use native.Mathlib.Nat.{le_of_suc-le-suc, not-suc-le-zero}
 use native.Mathlib.Omega.{arith}
 use lib.Bits.{bit_xor, xor_lt}
 use lib.Dec.{lit<}
-use lib.ListN.{length, get_or, drop, replicate, set, length-map, length-reverse}
+use lib.ListN.{length, get_or, drop, replicate, length-map, length-reverse}
 use Rattle.common.specs.Lists.{Bytes}
-use Rattle.common.proofs.Lists.{get_d_map_in}
-use Rattle.common.proofs.Written.{Written, written_none, written_next, written_whole}
 use Rattle.algebra.specs.Field.{ops}
 use Rattle.algebra.specs.Polynomial.{eval, plus, scale, product}
 use Rattle.algebra.proofs.Homomorphism as Hom
@@ -129,20 +127,3 @@ products_at [] b i h k = absurd (not-suc-le-zero k)
 products_at (x ∷ a) [] i h k = absurd (omega arith)
 products_at (x ∷ a) (y ∷ b) zero h k = refl
 products_at (x ∷ a) (y ∷ b) (suc i) h k = products_at a b i (omega arith) (le_of_suc-le-suc k)
-
--- ---- a loop that writes what f makes of each of sixteen bytes
-
-module _ (f : ℕ → ℕ) (a : List ℕ) (n : length a ≡ 16) where
-  length_mapped : length (map f a) ≡ 16
-  length_mapped = length-map a f ∙ n
-
-  pub mapped_none : {d : List ℕ} → length d ≡ 16 → Written 0 d (map f a) d 0
-  mapped_none h = written_none (omega (arith, length_mapped))
-
-  pub mapped_more : {d r : List ℕ} {j : ℕ} → Written 0 d (map f a) r j → (v : ℕ) → j < 16 → v ≡ f (get_or a j 0) → Written 0 d (map f a) (set r j v) (j + 1)
-  mapped_more {d} {r} {j} w v h e = written_next w v (omega (arith, length_mapped)) (e ∙ sym (get_d_map_in f a 0 0 j (omega arith)))
-
-  pub mapped_all : {d r : List ℕ} {j : ℕ} → length d ≡ 16 → Written 0 d (map f a) r j → 16 ≤ j → r ≡ map f a
-  mapped_all {d} {r} {j} l w h =
-      let e : j ≡ 16 = omega (arith, w.within, length_mapped) in
-      written_whole (rw e at w) length_mapped l

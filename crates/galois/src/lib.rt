@@ -19,11 +19,9 @@ pub fn mul(a: u8, b: u8) -> u8
 {
     let mut r: u8 = 0;
     let mut x = a;
-    let mut i: u8 = 0;
-    while i < 8 {
-        r = r ^ (((b >> i) & 1) * x);
+    for i in 0..8u8 {
+        r ^= ((b >> i) & 1) * x;
         x = times_x(x);
-        i += 1;
     }
     r
 }

@@ -4,22 +4,6 @@
 ghost use Rattle.std.specs.Prelude.{◌≡◌};
 ghost use Rattle.group_sync.specs.Group.{later_place, known_after, byte_at_first, step, step_odd, searching, start_due, packet_due, accepted_step, group_step, sync_in_range, fresh_sync};
 
-// The place of the next packet in its group of eight, 0 to 7: document 01's group place.
-#[derive(Clone, Copy)]
-pub enum Place {
-    NotKnown,
-    Known(u8),
-}
-
-// What the outer decoder, which document 01 calls the repair, made of a block.
-#[derive(Clone, Copy)]
-pub enum BlockDecoding {
-    // No codeword is near enough.
-    Lost,
-    // A codeword, with this first byte.
-    Accepted(u8),
-}
-
 // What a block taken comes to.
 #[derive(Clone, Copy)]
 pub enum Outcome {
@@ -48,7 +32,8 @@ enum FirstByte {
 // Group synchronization.
 #[derive(Clone, Copy)]
 pub struct GroupSync {
-    pub place: Place,
+    // The place of the next packet in its group of eight, 0 to 7, where it is known: document 01's group place.
+    pub place: Option<u8>,
     // How many blocks since the last sync byte in its place had neither sync byte first: 0 or 1, document 02's mark.
     pub missed: u8,
 }
@@ -63,13 +48,11 @@ pub struct GroupStep {
 fn first_byte(first: u8) -> FirstByte
     ensures { result ≡ byte_at_first first }
 {
-    if first == 0xB8 {
-        return FirstByte::InvertedSync;
+    match first {
+        0xB8 => FirstByte::InvertedSync,
+        0x47 => FirstByte::Sync,
+        _ => FirstByte::Neither,
     }
-    if first == 0x47 {
-        return FirstByte::Sync;
-    }
-    FirstByte::Neither
 }
 
 // The place after a place.
@@ -83,11 +66,13 @@ fn place_after(place: u8) -> u8
     }
 }
 
-fn stepped(outcome: Outcome, place: Place, missed: u8) -> GroupStep
+fn stepped(outcome: Outcome, place: Option<u8>, missed: u8) -> GroupStep
     ensures { result ≡ step outcome place missed }
 {
-    let sync = GroupSync { place, missed };
-    GroupStep { outcome, sync }
+    GroupStep {
+        outcome,
+        sync: GroupSync { place, missed },
+    }
 }
 
 // A codeword with neither sync byte first, at a place that is known.
@@ -95,9 +80,9 @@ fn odd(place: u8, missed: u8) -> GroupStep
     ensures { result ≡ step_odd place missed }
 {
     if missed == 0 {
-        return stepped(Outcome::OutOfStep, Place::Known(place_after(place)), 1);
+        return stepped(Outcome::OutOfStep, Some(place_after(place)), 1);
     }
-    stepped(Outcome::OutOfStep, Place::NotKnown, 0)
+    stepped(Outcome::OutOfStep, None, 0)
 }
 
 // A codeword while the place is not known.
@@ -105,9 +90,9 @@ fn found(first: FirstByte) -> GroupStep
     ensures { result ≡ searching first }
 {
     match first {
-        FirstByte::InvertedSync => stepped(Outcome::Delivered(0), Place::Known(1), 0),
-        FirstByte::Sync => stepped(Outcome::Waiting, Place::NotKnown, 0),
-        FirstByte::Neither => stepped(Outcome::Waiting, Place::NotKnown, 0),
+        FirstByte::InvertedSync => stepped(Outcome::Delivered(0), Some(1), 0),
+        FirstByte::Sync => stepped(Outcome::Waiting, None, 0),
+        FirstByte::Neither => stepped(Outcome::Waiting, None, 0),
     }
 }
 
@@ -116,8 +101,8 @@ fn start_due(missed: u8, first: FirstByte) -> GroupStep
     ensures { result ≡ start_due missed first }
 {
     match first {
-        FirstByte::InvertedSync => stepped(Outcome::Delivered(0), Place::Known(1), 0),
-        FirstByte::Sync => stepped(Outcome::OutOfStep, Place::NotKnown, 0),
+        FirstByte::InvertedSync => stepped(Outcome::Delivered(0), Some(1), 0),
+        FirstByte::Sync => stepped(Outcome::OutOfStep, None, 0),
         FirstByte::Neither => odd(0, missed),
     }
 }
@@ -127,19 +112,15 @@ fn packet_due(place: u8, missed: u8, first: FirstByte) -> GroupStep
     ensures { result ≡ packet_due place missed first }
 {
     match first {
-        FirstByte::InvertedSync => stepped(Outcome::Delivered(0), Place::Known(1), 0),
-        FirstByte::Sync => stepped(
-            Outcome::Delivered(place),
-            Place::Known(place_after(place)),
-            0,
-        ),
+        FirstByte::InvertedSync => stepped(Outcome::Delivered(0), Some(1), 0),
+        FirstByte::Sync => stepped(Outcome::Delivered(place), Some(place_after(place)), 0),
         FirstByte::Neither => odd(place, missed),
     }
 }
 
 // A codeword at a place that is known.
 fn expected(place: u8, missed: u8, first: FirstByte) -> GroupStep
-    ensures { result ≡ accepted_step (Place.Known place) missed first }
+    ensures { result ≡ accepted_step (Some place) missed first }
 {
     if place == 0 {
         return start_due(missed, first);
@@ -154,25 +135,19 @@ impl GroupSync {
     pub fn new() -> GroupSync
         ensures { result ≡ fresh_sync }
     {
-        let place = Place::NotKnown;
-        GroupSync { place, missed: 0 }
+        GroupSync {
+            place: None,
+            missed: 0,
+        }
     }
 
     // Whether the place is not known and nothing is missed, or the place is 0 to 7 and at most one is.
     pub fn in_range(self) -> bool
         ensures { result ≡ sync_in_range self }
     {
-        let place = self.place;
-        let missed = self.missed;
-        match place {
-            Place::NotKnown => missed < 1,
-            Place::Known(p) => {
-                if p < GroupSync::GROUP_LENGTH {
-                    missed < 2
-                } else {
-                    false
-                }
-            }
+        match self.place {
+            None => self.missed == 0,
+            Some(p) => p < GroupSync::GROUP_LENGTH && self.missed < 2,
         }
     }
 
@@ -180,34 +155,28 @@ impl GroupSync {
     fn moved(self) -> GroupStep
         ensures { result ≡ step Outcome.Lost (known_after self.place) self.missed }
     {
-        let place = self.place;
-        let missed = self.missed;
-        match place {
-            Place::NotKnown => stepped(Outcome::Lost, Place::NotKnown, missed),
-            Place::Known(p) => stepped(Outcome::Lost, Place::Known(place_after(p)), missed),
-        }
+        stepped(Outcome::Lost, self.place.map(place_after), self.missed)
     }
 
     // A codeword with this first byte.
     fn accepted(self, first: u8) -> GroupStep
         ensures { result ≡ accepted_step self.place self.missed (byte_at_first first) }
     {
-        let place = self.place;
-        let missed = self.missed;
         let byte = first_byte(first);
-        match place {
-            Place::NotKnown => found(byte),
-            Place::Known(p) => expected(p, missed, byte),
+        match self.place {
+            None => found(byte),
+            Some(p) => expected(p, self.missed, byte),
         }
     }
 
-    // One block, by what the outer decoder made of it.
-    pub fn step(self, decoding: BlockDecoding) -> GroupStep
-        ensures { result ≡ group_step self decoding }
+    // One block, by the first byte of the codeword that the outer decoder, which document 01 calls the repair, made of it, or None where no
+    // codeword is near enough.
+    pub fn step(self, codeword: Option<u8>) -> GroupStep
+        ensures { result ≡ group_step self codeword }
     {
-        match decoding {
-            BlockDecoding::Lost => self.moved(),
-            BlockDecoding::Accepted(first) => self.accepted(first),
+        match codeword {
+            None => self.moved(),
+            Some(first) => self.accepted(first),
         }
     }
 }

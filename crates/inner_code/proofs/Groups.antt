@@ -8,8 +8,8 @@ use native.Mathlib.Numerals.{add-one}
 use native.Mathlib.Omega.{arith}
 use borrow.Rule.Slice.PartMut.{put_mid, mid_of, post_of}
 use lib.Dec.{ltb}
-use lib.ListN.{length, get_or, take, drop, set, length-append, length-set, length-drop, get_or-append, drop_of_length-le}
-use lib.Seq.{take_at, take_all, length-take-le, get_or-take, get_or-drop, drop-drop, drop-cons, drop-set-lt, get_or-set_same, get_or-append-add, ext_get_or}
+use lib.ListN.{length, get_or, take, drop, set, length-append, length-set, length-drop, get_or-append}
+use lib.Seq.{take_at, length-take-le, get_or-take, get_or-drop, drop-drop, drop-cons, drop-set-lt, get_or-set_same, get_or-append-add, ext_get_or}
 use Rattle.common.specs.Lists.{chunks, chunks_of, list_of, Entries}
 use Rattle.common.proofs.Lists.{length_list_of, get_d_list_of}
 use Rattle.common.proofs.Entries.{entries_append}
@@ -87,13 +87,6 @@ pub record Cutting (base b n : ℕ) (output : List ℕ) (rest k : ℕ) : Type 0 
   pub size : length output ≡ n
   pub within : k ≤ n
 
-pub cutting_none : (base b : ℕ) (output : List ℕ) → Cutting base b (length output) output b (length output)
-cutting_none base b output = record {
-  cut = sym (ap (λ (l : List ℕ). digit_list base (length output) b ++ l) (drop_of_length-le output {i = length output} (omega arith)) ∙ append-nil _);
-  size = refl;
-  within = omega arith;
-}
-
 pub cutting_more : {base b n : ℕ} {output : List ℕ} {rest k : ℕ} → Cutting base b n output rest k → (j : ℕ) → k ≡ suc j
     → Cutting base b n (set output j (rest % base)) (rest / base) j
 unfolding digit_list
@@ -145,11 +138,6 @@ filled_more {k} {f} {output} {i} u part len p n r =
           ∙ ap (λ (x : List ℕ). x ++ f i) u.front
           ∙ ap (λ (x : ℕ). joined x f) (sym (add-one i));
     }
-
-pub filled_all : {k : ℕ} {f : ℕ → List ℕ} {output : List ℕ} {i : ℕ} → Filled k f output i → (n : ℕ) → i ≡ n → length output ≡ k * n → output ≡ joined n f
-filled_all {k} {f} {output} {i} u n e s =
-    let whole : length output ≤ k * i = rw e (omega (arith, s)) in
-    sym (take_all (k * i) output whole) ∙ u.front ∙ ap (λ (x : ℕ). joined x f) e
 
 -- places of parts within a whole
 pub part_fits : (k i n l : ℕ) → i < n → k * n ≡ l → k * i + k ≤ l

@@ -1,14 +1,11 @@
 -- What each call gives: its answer, by its tests in the order of document 01, the coder, and the output.
 -- Clauses: document 01, "Inner code" and "Answer numbers"; document 02, P10 and P12.
 -- Assumes nothing.
-use Rattle.std.specs.Prelude.{◌≡◌, Bool, List, [], ◌∷◌, ◌++◌, ℕ, ◌≤◌, ltb, eqb, length, drop}
+use Rattle.std.specs.Prelude.{◌≡◌, Bool, List, [], ◌∷◌, ◌++◌, ℕ, ◌≤◌, ltb, eqb, length, drop, Option, None}
 use Rattle.common.specs.Choice.{pick, indicator}
 use Rattle.common.specs.Refusal.{unless, when, first_due}
-use Rattle.answer.specs.Number.{number_of}
 use Rattle.puncturing.specs.Mode.{Mode, mode_of, block_bits_by}
 use Rattle.puncturing.specs.Step.{count_by}
-use Rattle.puncturing.specs.declared.Symbol.{Symbol}
-use Rattle.puncturing.specs.declared.Symbol.TheVariants.{None}
 use Rattle.inner_code.specs.Converter.{encoded_bits, uncoded_numbers, sequenced}
 use Rattle.inner_code.specs.Step.{in_range_by, step_by, symbol_by, symbols_by, coder_by, coder_in_range, CoderInRange}
 use Rattle.inner_code.specs.declared.InnerCoder.{InnerCoder}
@@ -34,7 +31,7 @@ step_number c = first_due (unless (coder_in_range c) 5 ∷ unless (mode_of c.rat
 abbrev pub step_coder : InnerCoder → Bool → InnerCoder
 step_coder c bit = pick (eqb (step_number c) 0) (step_by (mode_of c.rate) c (indicator bit)) c
 
-abbrev pub step_symbol : InnerCoder → Bool → Symbol
+abbrev pub step_symbol : InnerCoder → Bool → Option ℕ
 step_symbol c bit = pick (eqb (step_number c) 0) (symbol_by (mode_of c.rate) c (indicator bit)) None
 
 -- ---- one block
@@ -90,7 +87,6 @@ pub record Encodable (c : InnerCoder) (block output : List ℕ) : Type 0 where
 
 -- what encoding it gives
 pub record Encodes (c : InnerCoder) (block output : List ℕ) (r : Encoded) (exit : List ℕ) : Type 0 where
-  pub number : number_of r.answer ≡ 0
   pub coder : r.coder ≡ block_coder c block
   pub count : r.count ≡ length (block_symbols c block)
   pub written : exit ≡ block_symbols c block ++ drop (length (block_symbols c block)) output

@@ -2,14 +2,13 @@
 -- beside each coded bit.
 -- Clauses: EN 301 210, 4.6.3; document 02, P10.
 -- Assumes nothing.
-use Rattle.std.specs.Prelude.{◌≡◌, List, [], ◌∷◌, ◌++◌, ℕ, zero, suc, ◌+◌, ◌*◌, ◌/◌, ◌%◌, ◌≤◌, ◌<◌, ltb, length, get_or}
+use Rattle.std.specs.Prelude.{◌≡◌, List, [], ◌∷◌, ◌++◌, ℕ, zero, suc, ◌+◌, ◌*◌, ◌/◌, ◌%◌, ◌≤◌, ◌<◌, ltb, length, get_or, Some}
 use Rattle.common.specs.Choice.{pick}
 use Rattle.common.specs.Lists.{list_of}
 use Rattle.code_tables.specs.declared.Grouping.{Grouping}
 use Rattle.convolutional_code.specs.Bits.{bits_of}
 use Rattle.puncturing.specs.Mode.{Mode}
 use Rattle.puncturing.specs.Step.{punctured_by}
-use Rattle.puncturing.specs.declared.Symbol.TheVariants.{One}
 use Rattle.inner_code.specs.Converter.{encoded_group, uncoded_group}
 
 -- the first byte of each of n groups of so many bytes
@@ -47,10 +46,6 @@ numbered c2 c1 uncoded coded n =
 abbrev pub most_groups : ℕ
 most_groups = 68
 
--- a grouping of these numbers
-abbrev pub grouping : ℕ → ℕ → ℕ → ℕ → Grouping
-grouping others base c2 c1 = record { others = others; base = base; c2 = c2; c1 = c1 }
-
 -- The numbers of a grouping fit: per digits a byte are eight a group, a digit fits into a byte beside two coded bits, and the groups make up a block.
 pub record Fitting (g : Grouping) (per groups : ℕ) : Type 0 where
   pub others_some : 0 < g.others
@@ -69,7 +64,7 @@ pub record Grouped (m : Mode) (g : Grouping) : Type 0 where
   pub single : m.bits ≡ 1
   pub encoded : (bytes : List ℕ) → encoded_group m bytes ≡ bits_of (get_or bytes 0 0 ∷ [])
   pub uncoded : (bytes : List ℕ) → uncoded_group m bytes ≡ joined g.others (λ j. digit_list g.base (8 / g.others) (get_or bytes (suc j) 0))
-  pub symbol : (x y held : ℕ) → punctured_by m 0 x y held ≡ One (2 * coded_as g.c2 x y + coded_as g.c1 x y)
+  pub symbol : (x y held : ℕ) → punctured_by m 0 x y held ≡ Some (2 * coded_as g.c2 x y + coded_as g.c1 x y)
 
 -- the coded bits of a symbol's number, as rate 1/2 numbers them: X is C1, which counts 1 in it, and Y is C2, which counts 2
 abbrev pub coded_bits : ℕ → ℕ

@@ -1,12 +1,11 @@
 -- The inner coder as a value: what one bit, and what a list of bits of the encoded branch, does to it, in a mode.
 -- Clause: document 01, "Inner code".
 -- Assumes nothing.
-use Rattle.std.specs.Prelude.{Bool, false, List, [], ◌∷◌, ◌++◌, ℕ, ◌<◌, ◌≤◌, ltb, leb}
+use Rattle.std.specs.Prelude.{Bool, false, List, [], ◌∷◌, ◌++◌, ℕ, ◌<◌, ◌≤◌, ltb, leb, Option}
 use Rattle.common.specs.Choice.{pick}
 use Rattle.convolutional_code.specs.Code.{taps_x, taps_y, next_memory, coded}
 use Rattle.puncturing.specs.Mode.{Mode, mode_of, mode_count}
 use Rattle.puncturing.specs.Step.{next_by, held_count_by, symbol_list, punctured_by, held_by}
-use Rattle.puncturing.specs.declared.Symbol.{Symbol}
 use Rattle.inner_code.specs.declared.InnerCoder.{InnerCoder}
 
 -- document 01, "State ranges": six bits of memory, a place of the mode's pattern, and the held bit 0 where none is held
@@ -27,7 +26,7 @@ step_by m c bit = record {
   held = held_by m c.place (coded taps_x c.memory bit) (coded taps_y c.memory bit) c.held;
 }
 
-abbrev pub symbol_by : Mode → InnerCoder → ℕ → Symbol
+abbrev pub symbol_by : Mode → InnerCoder → ℕ → Option ℕ
 symbol_by m c bit = punctured_by m c.place (coded taps_x c.memory bit) (coded taps_y c.memory bit) c.held
 
 -- the symbols of a list of bits, and the coder after them

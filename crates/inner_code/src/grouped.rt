@@ -3,36 +3,35 @@
 ghost use Rattle.std.specs.Prelude.{◌≡◌, ◌++◌, ℕ, ◌+◌, ◌*◌, ◌/◌, ◌<◌, ◌≤◌, length, get_or, drop};
 ghost use Rattle.convolutional_code.specs.Bits.{Bits, bits_of};
 ghost use Rattle.convolutional_code.specs.Code.{memory_after, block_mother};
-ghost use Rattle.inner_code.specs.Groups.{firsts, digit_list, byte_digits, group_digits, coded_as, numbered, grouping, Fitting};
+ghost use Rattle.inner_code.specs.Groups.{firsts, digit_list, byte_digits, group_digits, coded_as, numbered, Fitting};
 
+use crate::Block;
+use code_tables::Grouping;
 use convolutional_code::code_bytes;
 
 // A block has at most so many groups.
 const MOST_GROUPS: usize = 68;
 
 // The first byte of each group.
-fn encoded_bytes(block: &[u8], size: usize, bytes: &mut [u8])
-    requires { (0 < size) × (length block.now ≡ 204) × (size * length bytes.old ≡ 204) }
+fn encoded_bytes(block: &Block, size: usize, bytes: &mut [u8])
+    requires { (0 < size) × (size * length bytes.old ≡ 204) }
     ensures { bytes.new ≡ firsts size (length bytes.old) block.now }
 {
-    let mut i: usize = 0;
-    while i < bytes.len() {
+    for i in 0..bytes.len() {
         bytes[i] = block[size * i];
-        i += 1;
     }
 }
 
 // The last digits of a byte in a base, as many as the output takes.
+// A base stays a byte: it comes from a mode's grouping, of which `Fitting` says all, and a byte is divided by it.
 fn unpack_byte(b: u8, base: u8, output: &mut [u8])
     requires { 0 < base }
     ensures { output.new ≡ digit_list base (length output.old) b }
 {
     let mut rest = b;
-    let mut k = output.len();
-    while 0 < k {
-        k -= 1;
+    for k in (0..output.len()).rev() {
         output[k] = rest % base;
-        rest = rest / base;
+        rest /= base;
     }
 }
 
@@ -41,18 +40,16 @@ fn unpack_group(bytes: &[u8], base: u8, per: usize, output: &mut [u8])
     requires { (0 < base) × (per * length bytes.now ≡ 8) × (length output.old ≡ 8) }
     ensures { output.new ≡ byte_digits base per bytes.now }
 {
-    let mut j: usize = 0;
-    while j < bytes.len() {
+    for (j, b) in bytes.iter().enumerate() {
         let n = per * j;
         let end = n + per;
-        unpack_byte(bytes[j], base, &mut output[n..end]);
-        j += 1;
+        unpack_byte(*b, base, &mut output[n..end]);
     }
 }
 
 // The same of each group of a block.
 fn uncoded_digits(
-    block: &[u8],
+    block: &Block,
     others: usize,
     base: u8,
     per: usize,
@@ -61,19 +58,16 @@ fn uncoded_digits(
 )
     requires { (0 < base)
         × (per * others ≡ 8)
-        × (length block.now ≡ 204)
         × ((others + 1) * groups ≡ 204)
         × (length uncoded.old ≡ 8 * groups) }
     ensures { uncoded.new ≡ group_digits others base per groups block.now }
 {
-    let mut i: usize = 0;
-    while i < groups {
+    for i in 0..groups {
         let at = (others + 1) * i + 1;
         let behind = at + others;
         let n = 8 * i;
         let end = n + 8;
         unpack_group(&block[at..behind], base, per, &mut uncoded[n..end]);
-        i += 1;
     }
 }
 
@@ -89,10 +83,7 @@ fn number(u: u8, c2: u8, c1: u8) -> u8
 fn coded_bit(bit: usize, x: u8, y: u8) -> u8
     ensures { result ≡ coded_as bit x y }
 {
-    if bit < code_tables::Y1 {
-        return x;
-    }
-    y
+    if bit < code_tables::Y1 { x } else { y }
 }
 
 // The symbols: the digits beside the two coded bits of each pattern.
@@ -106,12 +97,10 @@ fn sequence(uncoded: &[u8], coded: &[u8], c2: usize, c1: usize, output: &mut [u8
         ≡ numbered c2 c1 uncoded.now coded.now (length uncoded.now) ++ drop (length uncoded.now) output.old }
 {
     let count = uncoded.len();
-    let mut n: usize = 0;
-    while n < count {
+    for n in 0..count {
         let x = coded[n];
         let y = coded[count + n];
         output[n] = number(uncoded[n], coded_bit(c2, x, y), coded_bit(c1, x, y));
-        n += 1;
     }
 }
 
@@ -119,12 +108,8 @@ fn sequence(uncoded: &[u8], coded: &[u8], c2: usize, c1: usize, output: &mut [u8
 // of memory and coded bytes, and X and Y of each of them.
 fn code_groups(
     memory: u8,
-    block: &[u8],
-    others: usize,
-    base: u8,
-    c2: usize,
-    c1: usize,
-    per: usize,
+    block: &Block,
+    g: Grouping,
     bytes: &mut [u8],
     uncoded: &mut [u8],
     history: &mut [u8],
@@ -132,49 +117,38 @@ fn code_groups(
     output: &mut [u8],
 ) -> u8
     requires { (memory < 64)
-        × (Fitting (grouping others base c2 c1) per (length bytes.old))
-        × (length block.now ≡ 204)
+        × (Fitting g (8 / g.others) (length bytes.old))
         × (length uncoded.old ≡ 8 * length bytes.old)
         × (length history.old ≡ 8 * length bytes.old + 6)
         × (length coded.old ≡ 16 * length bytes.old)
         × (8 * length bytes.old ≤ length output.old) }
-    ensures { (result ≡ memory_after memory (bits_of (firsts (others + 1) (length bytes.old) block.now)))
+    ensures { (result ≡ memory_after memory (bits_of (firsts (g.others + 1) (length bytes.old) block.now)))
         × (output.new
-        ≡ numbered c2 c1 (group_digits others base per (length bytes.old) block.now)
-        (block_mother memory (bits_of (firsts (others + 1) (length bytes.old) block.now))) (8 * length bytes.old)
+        ≡ numbered g.c2 g.c1 (group_digits g.others g.base (8 / g.others) (length bytes.old) block.now)
+        (block_mother memory (bits_of (firsts (g.others + 1) (length bytes.old) block.now))) (8 * length bytes.old)
         ++ drop (8 * length bytes.old) output.old) }
 {
     let groups = bytes.len();
-    encoded_bytes(block, others + 1, bytes);
-    uncoded_digits(block, others, base, per, groups, uncoded);
+    encoded_bytes(block, g.others + 1, bytes);
+    uncoded_digits(block, g.others, g.base, 8 / g.others, groups, uncoded);
     let next = code_bytes(memory, bytes, history, coded);
-    sequence(uncoded, coded, c2, c1, output);
+    sequence(uncoded, coded, g.c2, g.c1, output);
     next
 }
 
 // Codes a block by the grouping of its mode, and gives the memory after it.
-pub fn code_grouped(
-    memory: u8,
-    block: &[u8],
-    others: usize,
-    base: u8,
-    c2: usize,
-    c1: usize,
-    output: &mut [u8],
-) -> u8
+pub fn code_grouped(memory: u8, block: &Block, g: Grouping, output: &mut [u8]) -> u8
     requires { (memory < 64)
-        × (Fitting (grouping others base c2 c1) (8 / others) (204 / (others + 1)))
-        × (length block.now ≡ 204)
-        × (8 * (204 / (others + 1)) ≤ length output.old) }
-    ensures { (result ≡ memory_after memory (bits_of (firsts (others + 1) (204 / (others + 1)) block.now)))
+        × (Fitting g (8 / g.others) (204 / (g.others + 1)))
+        × (8 * (204 / (g.others + 1)) ≤ length output.old) }
+    ensures { (result ≡ memory_after memory (bits_of (firsts (g.others + 1) (204 / (g.others + 1)) block.now)))
         × (output.new
-        ≡ numbered c2 c1
-        (group_digits others base (8 / others) (204 / (others + 1)) block.now)
-        (block_mother memory (bits_of (firsts (others + 1) (204 / (others + 1)) block.now))) (8 * (204 / (others + 1)))
-        ++ drop (8 * (204 / (others + 1))) output.old) }
+        ≡ numbered g.c2 g.c1
+        (group_digits g.others g.base (8 / g.others) (204 / (g.others + 1)) block.now)
+        (block_mother memory (bits_of (firsts (g.others + 1) (204 / (g.others + 1)) block.now))) (8 * (204 / (g.others + 1)))
+        ++ drop (8 * (204 / (g.others + 1))) output.old) }
 {
-    let per = 8 / others;
-    let groups = 204 / (others + 1);
+    let groups = 204 / (g.others + 1);
     let mut bytes = [0u8; MOST_GROUPS];
     let mut uncoded = [0u8; 8 * MOST_GROUPS];
     let mut history = [0u8; 8 * MOST_GROUPS + 6];
@@ -182,11 +156,7 @@ pub fn code_grouped(
     code_groups(
         memory,
         block,
-        others,
-        base,
-        c2,
-        c1,
-        per,
+        g,
         &mut bytes[..groups],
         &mut uncoded[..8 * groups],
         &mut history[..8 * groups + 6],

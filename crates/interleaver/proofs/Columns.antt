@@ -1,9 +1,8 @@
 -- The bytes of one branch: in a block, and as a loop writes them, twelve places apart.
 -- Assumes nothing.
-use mathlib.Core.Path.{◌≡◌, refl, ap, ◌∙◌, sym}
+use mathlib.Core.Path.{◌≡◌, ap, ◌∙◌, sym}
 use mathlib.Core.List.{List, ◌∷◌}
 use Prim.Native.Nat.{ℕ, ◌+◌, ◌*◌, ◌<◌}
-use native.Mathlib.Nat.{zero-add}
 use native.Mathlib.Numerals.{add-one}
 use native.Mathlib.Omega.{arith}
 use lib.ListN.{length, get_or, drop, set, length-set}
@@ -23,9 +22,6 @@ get_d_column j block k h = get_d_list_of 17 (λ i. get_or block (12 * i + j) 0) 
 pub record Placing (j : ℕ) (bs d : List ℕ) (r : List ℕ) (k : ℕ) : Type 0 where
   pub rest : scattered (12 * k + j) (drop k bs) r ≡ scattered j bs d
   pub same : length r ≡ length d
-
-pub placing_none : (j : ℕ) (bs d : List ℕ) → Placing j bs d d 0
-placing_none j bs d = record { rest = ap (λ (n : ℕ). scattered n bs d) (zero-add j); same = refl }
 
 pub placing_more : {j : ℕ} {bs d r : List ℕ} {k : ℕ} → Placing j bs d r k → (v : ℕ) → k < length bs → v ≡ get_or bs k 0
     → Placing j bs d (set r (12 * k + j) v) (k + 1)

@@ -67,9 +67,6 @@ length_leaving p s bs n = length-take-le 17 (turned p s ++ bs) (let m = length-a
 
 -- ---- positions
 
-advanced_zero : (size p : ℕ) → p < size → p ≡ position_advanced size p 0
-advanced_zero size p h = rw (lt-ltb (p + 0) size (omega arith)) (omega arith)
-
 pub advanced_small : (size p k : ℕ) → p < size → k ≤ size → position_advanced size p k < size
 advanced_small size p k h l = by (dec_lt (p + k) size)
   where
@@ -116,9 +113,6 @@ pub record Turning (s : List ℕ) (p : ℕ) (bs : List ℕ) (t : List ℕ) (q k 
   pub at : q ≡ position_advanced (length s) p k
   pub small : q < length t
   pub rest : turned q t ++ drop k bs ≡ drop k (turned p s ++ bs)
-
-pub turning_none : (s : List ℕ) (p : ℕ) (bs : List ℕ) → p < length s → Turning s p bs s p 0
-turning_none s p bs h = record { same = refl; at = advanced_zero (length s) p h; small = h; rest = refl }
 
 module _ {s : List ℕ} {p : ℕ} {bs t : List ℕ} {q k : ℕ} (g : Turning s p bs t q k) (h : k < length bs) (small : p < length s) (few : length bs ≤ length s) where
   all : List ℕ

@@ -2,34 +2,22 @@
 #![tactic(auto)]
 
 ghost use Rattle.std.specs.Prelude.{◌≡◌};
-ghost use Rattle.answer.specs.Number.{number_of};
+ghost use Rattle.answer.specs.Number.{answered, given_or};
 ghost use Rattle.interleaver.specs.Branch.{branches_in_range};
 ghost use Rattle.interleaver.specs.Block.{fresh};
 ghost use Rattle.interleaver.specs.Call.{pass_number, pass_branches, pass_output};
 
 pub mod branches;
 
-use answer::Answer;
+use answer::Refusal;
 use branches::{Branches, Side, pass_block, positions_within};
 
-// An answer, and the branches after it.
-#[derive(Clone, Copy)]
-struct Passed {
-    answer: Answer,
-    branches: Branches,
-}
-
-// The sending side.
+// The sending side. The two sides are types of their own, so that the state of one is not given to the other; their work is one function, `pass`.
+// One generic type over the side is no plainer: the two calls have names of their own, so that only `new` and `in_range` would be shared, and these would first
+// have to make the constant of the type into a side.
 #[derive(Clone, Copy)]
 pub struct Interleaver {
     pub branches: Branches,
-}
-
-// An answer, and the sending side after it.
-#[derive(Clone, Copy)]
-pub struct Interleaved {
-    pub answer: Answer,
-    pub interleaver: Interleaver,
 }
 
 // The receiving side.
@@ -38,43 +26,27 @@ pub struct Deinterleaver {
     pub branches: Branches,
 }
 
-// An answer, and the receiving side after it.
-#[derive(Clone, Copy)]
-pub struct Deinterleaved {
-    pub answer: Answer,
-    pub deinterleaver: Deinterleaver,
-}
-
 // The tests, and the work.
-fn pass(side: Side, branches: Branches, block: &[u8], output: &mut [u8]) -> Passed
-    ensures { (number_of result.answer ≡ pass_number side branches block.now output.old)
-        × (result.branches ≡ pass_branches side branches block.now output.old)
+fn pass(
+    side: Side,
+    branches: Branches,
+    block: &[u8],
+    output: &mut [u8],
+) -> Result<Branches, Refusal>
+    ensures { (answered result ≡ pass_number side branches block.now output.old)
+        × (given_or branches (λ b. b) result ≡ pass_branches side branches block.now output.old)
         × (output.new ≡ pass_output side branches block.now output.old) }
 {
-    let positions = branches.positions;
-    if !positions_within(side, positions) {
-        return Passed {
-            answer: Answer::StateRange,
-            branches,
-        };
+    if !positions_within(side, branches.positions) {
+        return Err(Refusal::StateRange);
     }
     if block.len() != 204 {
-        return Passed {
-            answer: Answer::BlockLength,
-            branches,
-        };
+        return Err(Refusal::BlockLength);
     }
     if output.len() < 204 {
-        return Passed {
-            answer: Answer::OutputLength,
-            branches,
-        };
+        return Err(Refusal::OutputLength);
     }
-    let next = pass_block(side, branches, block, output);
-    Passed {
-        answer: Answer::Done,
-        branches: next,
-    }
+    Ok(pass_block(side, branches, block, output))
 }
 
 impl Interleaver {
@@ -82,34 +54,26 @@ impl Interleaver {
     pub fn new() -> Interleaver
         ensures { result.branches ≡ fresh }
     {
-        let branches = Branches::new();
-        Interleaver { branches }
+        Interleaver {
+            branches: Branches::new(),
+        }
     }
 
     // Whether each position is within its branch.
     pub fn in_range(self) -> bool
         ensures { result ≡ branches_in_range Side.Sending self.branches }
     {
-        let branches = self.branches;
-        let positions = branches.positions;
-        positions_within(Side::Sending, positions)
+        positions_within(Side::Sending, self.branches.positions)
     }
 
-    // Puts a block in, and writes the block that leaves.
-    pub fn interleave(self, block: &[u8], output: &mut [u8]) -> Interleaved
-        ensures { (number_of result.answer ≡ pass_number Side.Sending self.branches block.now output.old)
-            × (result.interleaver.branches ≡ pass_branches Side.Sending self.branches block.now output.old)
+    // Puts a block in, and writes the block that leaves: the sending side after it.
+    pub fn interleave(self, block: &[u8], output: &mut [u8]) -> Result<Interleaver, Refusal>
+        ensures { (answered result ≡ pass_number Side.Sending self.branches block.now output.old)
+            × (given_or self.branches (λ after. after.branches) result ≡ pass_branches Side.Sending self.branches block.now output.old)
             × (output.new ≡ pass_output Side.Sending self.branches block.now output.old) }
     {
-        let before = self.branches;
-        let passed = pass(Side::Sending, before, block, output);
-        let answer = passed.answer;
-        let branches = passed.branches;
-        let interleaver = Interleaver { branches };
-        Interleaved {
-            answer,
-            interleaver,
-        }
+        let branches = pass(Side::Sending, self.branches, block, output)?;
+        Ok(Interleaver { branches })
     }
 }
 
@@ -118,33 +82,25 @@ impl Deinterleaver {
     pub fn new() -> Deinterleaver
         ensures { result.branches ≡ fresh }
     {
-        let branches = Branches::new();
-        Deinterleaver { branches }
+        Deinterleaver {
+            branches: Branches::new(),
+        }
     }
 
     // Whether each position is within its branch.
     pub fn in_range(self) -> bool
         ensures { result ≡ branches_in_range Side.Receiving self.branches }
     {
-        let branches = self.branches;
-        let positions = branches.positions;
-        positions_within(Side::Receiving, positions)
+        positions_within(Side::Receiving, self.branches.positions)
     }
 
-    // Puts a block in, and writes the block that leaves.
-    pub fn deinterleave(self, block: &[u8], output: &mut [u8]) -> Deinterleaved
-        ensures { (number_of result.answer ≡ pass_number Side.Receiving self.branches block.now output.old)
-            × (result.deinterleaver.branches ≡ pass_branches Side.Receiving self.branches block.now output.old)
+    // Puts a block in, and writes the block that leaves: the receiving side after it.
+    pub fn deinterleave(self, block: &[u8], output: &mut [u8]) -> Result<Deinterleaver, Refusal>
+        ensures { (answered result ≡ pass_number Side.Receiving self.branches block.now output.old)
+            × (given_or self.branches (λ after. after.branches) result ≡ pass_branches Side.Receiving self.branches block.now output.old)
             × (output.new ≡ pass_output Side.Receiving self.branches block.now output.old) }
     {
-        let before = self.branches;
-        let passed = pass(Side::Receiving, before, block, output);
-        let answer = passed.answer;
-        let branches = passed.branches;
-        let deinterleaver = Deinterleaver { branches };
-        Deinterleaved {
-            answer,
-            deinterleaver,
-        }
+        let branches = pass(Side::Receiving, self.branches, block, output)?;
+        Ok(Deinterleaver { branches })
     }
 }

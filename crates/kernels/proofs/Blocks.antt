@@ -2,13 +2,21 @@
 -- Assumes nothing.
 use mathlib.Core.Path.{◌≡◌, ap, ap₂, sym, ◌∙◌}
 use mathlib.Core.List.{List, [], ◌∷◌, ◌++◌, append_assoc}
-use Prim.Native.Nat.{ℕ, ◌+◌, ◌-◌, ◌≤◌, ◌<◌}
+use Prim.Native.Nat.{ℕ, ◌+◌, ◌-◌, ◌*◌, ◌/◌, ◌≤◌, ◌<◌}
 use native.Mathlib.Omega.{arith}
 use borrow.Rule.Slice.PartMut.{put_mid, mid_of}
 use lib.ListN.{length, take, drop, take-append-drop, length-drop}
 use lib.Seq.{take_at, drop_at, drop-drop, drop-append-le}
 use Rattle.common.specs.Lists.{chunks_of}
 use Rattle.common.proofs.Chunks.{chunks_few, chunks_more}
+
+-- block k of the whole ones is there
+pub block_there : (n k : ℕ) → k < n / 204 → 204 ≤ n - 204 * k
+block_there n k h = omega arith
+
+-- behind them there are fewer bytes than a block
+pub blocks_over : (n k : ℕ) → n / 204 ≤ k → n - 204 * k < 204
+blocks_over n k h = omega arith
 
 -- the whole blocks from at on
 abbrev pub blocks_from : List ℕ → ℕ → List (List ℕ)

@@ -1,5 +1,6 @@
 -- A loop that codes the blocks of a buffer: what is in the output, and what is left to code.
 -- Assumes nothing.
+use Rattle.std.specs.Prelude.{Option, None, Some}
 use mathlib.Core.Path.{◌≡◌, refl, ap, ap₂, sym, subst, ◌∙◌}
 use mathlib.Core.Bool.{true}
 use mathlib.Core.List.{List, [], ◌∷◌, ◌++◌, append_assoc, append-nil}
@@ -19,8 +20,6 @@ use Rattle.puncturing.specs.Mode.{mode_of, block_bits, block_bits_by, mode_count
 use Rattle.inner_code.specs.Converter.{encoded_bits}
 use Rattle.inner_code.specs.Encode.{fresh_coder, block_symbols_by, block_coder_by, calls_by, block_symbols, block_coder, encode_coder, encode_count, inner_encode_output}
 use Rattle.inner_code.specs.declared.InnerCoder.{InnerCoder}
-use Rattle.puncturing.specs.declared.Symbol.{Symbol}
-use Rattle.puncturing.specs.declared.Symbol.TheVariants.{None, One}
 use Rattle.puncturing.proofs.Places.{sent_known}
 use Rattle.puncturing.proofs.WellFormed.{well_formed_lem}
 use Rattle.inner_code.proofs.Converter.{encoded_bits_lem, length_block_encoded}
@@ -31,9 +30,9 @@ use Rattle.kernels.proofs.Blocks.{blocks_from, blocks_end, blocks_more, put_next
 
 -- ---- a bit gives at most one symbol
 
-at_most_one : (s : Symbol) → length (symbol_list s) ≤ 1
+at_most_one : (s : Option ℕ) → length (symbol_list s) ≤ 1
 at_most_one None = omega arith
-at_most_one (One s) = omega arith
+at_most_one (Some s) = omega arith
 
 symbols_few : (c : InnerCoder) (bits : List ℕ) → length (symbols_of c bits) ≤ length bits
 unfolding symbols_by

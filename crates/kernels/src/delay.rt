@@ -10,11 +10,10 @@ pub fn interleave_blocks(blocks: &[u8], output: &mut [u8])
     ensures { output.new ≡ delayed_bytes Sending blocks.now ++ drop (204 * (length blocks.now / 204)) output.old }
 {
     let mut interleaver = Interleaver::new();
-    let mut at: usize = 0;
-    while blocks.len() - at >= 204 {
+    for k in 0..blocks.len() / 204 {
+        let at = 204 * k;
         let end = at + 204;
         let passed = interleaver.interleave(&blocks[at..end], &mut output[at..end]);
-        interleaver = passed.interleaver;
-        at = end;
+        interleaver = passed.unwrap_or(interleaver);
     }
 }

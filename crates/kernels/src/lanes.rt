@@ -7,11 +7,9 @@ pub fn scale_by(first: [u8; 16], factors: &[u8]) -> [u8; 16]
     ensures { result ≡ scaled_by factors.now first }
 {
     let mut a = first;
-    let mut i: usize = 0;
-    while i < factors.len() {
-        let next = galois::lanes::scale(a, factors[i]);
+    for factor in factors {
+        let next = galois::lanes::scale(a, *factor);
         a = next;
-        i += 1;
     }
     a
 }

@@ -25,7 +25,7 @@ pub extern "C" fn kernel_scale(lanes: &mut [u8], factors: &[u8])
     if lanes.len() < 16 {
         return;
     }
-    let last = scale_by(galois::lanes::sixteen(lanes, 0), factors);
+    let last = scale_by(common::array_at(lanes, 0), factors);
     common::put(&last, 0, lanes);
 }
 

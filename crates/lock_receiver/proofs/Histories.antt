@@ -36,6 +36,7 @@ use Rattle.lock_receiver.specs.Take.{waiting_packets, fresh_lock, lock_in_range,
 use Rattle.lock_receiver.specs.History.{LockTakes, fresh, refusing, taking, unlisted_from, doubtful_from, Merged, LockCame}
 use Rattle.lock_receiver.specs.declared.LockReceiver.{LockReceiver}
 use Rattle.lock_receiver.specs.declared.LockStep.{LockStep}
+use Rattle.answer.specs.Number.{given_or}
 use Rattle.lock_receiver.proofs.Meaning.{all_merged}
 use Rattle.lock_receiver.proofs.Calls.{given_of, told_of, held_of, given_both, held_both, fresh_given, fresh_doubtful, fresh_packets}
 
@@ -187,12 +188,12 @@ none_refused false b c d e z = absurd (omega arith)
 
 every_run : {blocks given : List (List ℕ)} {lines : List ℕ} {v : LockReceiver} → LockTakes blocks given lines v → Run blocks given lines v
 every_run fresh = run_fresh
-every_run (refusing {blocks} {given} {lines} block output room exit roomExit r h p (refused answer e q s x y)) = subst (Run blocks given lines) (sym (ap (λ (z : LockStep). z.lock) s)) (every_run h)
-every_run (refusing block output room exit roomExit r h p (taken e t)) = absurd (omega arith)
+every_run (refusing {blocks} {given} {lines} block output room exit roomExit r h p (refused answer e q s x y)) = subst (Run blocks given lines) (sym (ap (given_or _ (λ (z : LockStep). z.lock)) s)) (every_run h)
+every_run (refusing block output room exit roomExit r h p (taken step e q t)) = absurd (omega arith)
 every_run (taking block output room exit roomExit r h z (refused answer e q s x y)) = absurd (omega arith)
-every_run (taking {v = v} block output room exit roomExit r h z (taken e t)) =
+every_run (taking {v = v} block output room exit roomExit r h z (taken step e q t)) =
     let f = none_refused (lock_in_range v) (eqb (length block) 204) (ltb (length output) 1504) (ltb (length room) 8) (ltb v.receiver.counts.taken 4294967295) z in
-    run_more (every_run h) (eqb-true _ _ f.0) (ltb-true _ _ f.1) t
+    run_more (every_run h) (eqb-true _ _ f.0) (ltb-true _ _ f.1) (subst (λ (s : LockStep). TakesOne v block output room s exit roomExit) (sym (ap (given_or r (λ (s : LockStep). s)) q)) t)
 
 -- ---- what it comes to
 

@@ -9,12 +9,10 @@ use native.Mathlib.Omega.{arith}
 use borrow.Author.Tests.{ne_eqb}
 use lib.Dec.{eqb}
 use lib.ListN.{get_or}
+use Rattle.std.proofs.Common.{Option, Some}
 use Rattle.common.specs.Choice.{pick}
 use Rattle.group_sync.specs.Group.{later_place, group_step, step}
 use Rattle.group_sync.specs.Stream.{outcomes}
-use Rattle.group_sync.specs.declared.Place.{Place}
-use Rattle.group_sync.specs.declared.Place.TheVariants.{Known}
-use Rattle.group_sync.specs.declared.BlockDecoding.{BlockDecoding}
 use Rattle.group_sync.specs.declared.Outcome.{Outcome}
 use Rattle.group_sync.specs.declared.Outcome.TheVariants.{Filling, Delivered, Lost, Waiting, OutOfStep}
 use Rattle.group_sync.specs.declared.GroupSync.{GroupSync}
@@ -41,11 +39,11 @@ abbrev pub step_at : GroupSync → Call → GroupStep
 step_at s c = group_step s (decoding_of c.decoded (get_or c.left 0 0))
 
 -- the packets given, those told and those that wait after it, by its own packet or none
-abbrev pub step_given : Place → Certainty → List (List ℕ) → GroupStep → List (List ℕ) → List (List ℕ)
+abbrev pub step_given : Option ℕ → Certainty → List (List ℕ) → GroupStep → List (List ℕ) → List (List ℕ)
 step_given place k held g own =
     pick (eqb (outcome_number g.outcome) 0) (pick (started_at g.sync.place) (pick (start_due_at place) held [] ++ own) (pick (is_sure k) own [])) []
 
-abbrev pub step_told : Place → Certainty → List (List ℕ) → GroupStep → List (List ℕ)
+abbrev pub step_told : Option ℕ → Certainty → List (List ℕ) → GroupStep → List (List ℕ)
 step_told place k held g = pick (eqb (outcome_number g.outcome) 0) (pick (started_at g.sync.place) (pick (start_due_at place) [] held) []) held
 
 abbrev pub step_held : Certainty → List (List ℕ) → GroupStep → List (List ℕ) → List (List ℕ)
@@ -75,7 +73,7 @@ Kept (Unsure n) held = Unit {0}
 -- ---- what they mean
 
 -- those that wait, where what follows confirms them or where it does not
-record Means (place : Place) (k : Certainty) (held : List (List ℕ)) (block : ℕ) (os : List Outcome) (ls given doubtful : List (List ℕ)) : Type 0 where
+record Means (place : Option ℕ) (k : Certainty) (held : List (List ℕ)) (block : ℕ) (os : List Outcome) (ls given doubtful : List (List ℕ)) : Type 0 where
   pub given_are : given ≡ pick (confirmed (due_of place) os) held [] ++ unlisted_from block (is_sure k) os ls
   pub doubtful_are : doubtful ≡ pick (confirmed (due_of place) os) [] held ++ doubtful_from block (is_sure k) os ls
 
@@ -98,7 +96,7 @@ doubtful_more : (t : Bool) (held own rest : Packets) (l : ℕ) → pick t [] (he
 doubtful_more true held own rest l = refl
 doubtful_more false held own rest l = append_assoc held own rest
 
-module _ (place : Place) (k : Certainty) (held : List (List ℕ)) (block : ℕ) (left : List ℕ) (cs : List Call) (kept : Kept k held)
+module _ (place : Option ℕ) (k : Certainty) (held : List (List ℕ)) (block : ℕ) (left : List ℕ) (cs : List Call) (kept : Kept k held)
     (ih : (x : GroupSync) (m : Certainty) (h : List (List ℕ)) → Kept m h → MeansOf x m h (block + 1) cs) where
   abbrev Step : GroupStep → Type 0
   Step g =
@@ -122,9 +120,9 @@ module _ (place : Place) (k : Certainty) (held : List (List ℕ)) (block : ℕ) 
   passed_step Waiting x h = record { given_are = none_given x (Unsure 0) tt; doubtful_are = ap (λ (l : Packets). held ++ l) (none_doubtful x (Unsure 0) tt) }
   passed_step OutOfStep x h = record { given_are = none_given x (Unsure 0) tt; doubtful_are = ap (λ (l : Packets). held ++ l) (none_doubtful x (Unsure 0) tt) }
 
-  start_step : Step (step (Delivered 0) (Known 1) 0)
+  start_step : Step (step (Delivered 0) (Some 1) 0)
   start_step =
-      let x : GroupSync = record { place = Known 1; missed = 0 } in
+      let x : GroupSync = record { place = Some 1; missed = 0 } in
       let own = packet_of (Delivered 0) left in
       record {
         given_are =
@@ -133,25 +131,25 @@ module _ (place : Place) (k : Certainty) (held : List (List ℕ)) (block : ℕ) 
         doubtful_are = ap₂ (λ (t : Bool) (l : Packets). pick t [] held ++ l) (due_is place) (none_doubtful x Sure refl);
       }
 
-  follow_step : (p : ℕ) → 0 < p → Step (step (Delivered p) (Known (later_place p)) 0)
+  follow_step : (p : ℕ) → 0 < p → Step (step (Delivered p) (Some (later_place p)) 0)
   follow_step p h = by k held kept
     where
       x : GroupSync
-      x = record { place = Known (later_place p); missed = 0 }
+      x = record { place = Some (later_place p); missed = 0 }
 
       own : Packets
       own = packet_of (Delivered p) left
 
       os : List Outcome
-      os = outcomes (record { place = Known (later_place p); missed = 0 }) (decodings cs)
+      os = outcomes (record { place = Some (later_place p); missed = 0 }) (decodings cs)
 
       later : eqb p 0 ≡ false
       later = ne_eqb p 0 (λ z. omega arith)
 
       by : (m : Certainty) (w : Packets) → Kept m w
           → Means place m w block (Delivered p ∷ os) (left ∷ lefts cs)
-          (step_given place m w (step (Delivered p) (Known (later_place p)) 0) own ++ all_given x (step_certainty m (step (Delivered p) (Known (later_place p)) 0)) (step_held m w (step (Delivered p) (Known (later_place p)) 0) own) cs)
-          (step_told place m w (step (Delivered p) (Known (later_place p)) 0) ++ all_doubtful x (step_certainty m (step (Delivered p) (Known (later_place p)) 0)) (step_held m w (step (Delivered p) (Known (later_place p)) 0) own) cs)
+          (step_given place m w (step (Delivered p) (Some (later_place p)) 0) own ++ all_given x (step_certainty m (step (Delivered p) (Some (later_place p)) 0)) (step_held m w (step (Delivered p) (Some (later_place p)) 0) own) cs)
+          (step_told place m w (step (Delivered p) (Some (later_place p)) 0) ++ all_doubtful x (step_certainty m (step (Delivered p) (Some (later_place p)) 0)) (step_held m w (step (Delivered p) (Some (later_place p)) 0) own) cs)
       by Sure w e =
           record {
             given_are =
@@ -171,7 +169,7 @@ module _ (place : Place) (k : Certainty) (held : List (List ℕ)) (block : ℕ) 
                 ((ih x (Unsure (n + 1)) (w ++ own) tt).doubtful_are ∙ doubtful_more (confirmed (later_place p) os) w own (doubtful_from (block + 1) false os (lefts cs)) (line block 0));
           }
 
-  from_step : (d : BlockDecoding) (g : GroupStep) → Stepped place d g → Step g
+  from_step : (d : Option ℕ) (g : GroupStep) → Stepped place d g → Step g
   from_step d g (passed o x h) = passed_step o x h
   from_step d g (starts e) = start_step
   from_step d g (follows p e q h) = follow_step p h

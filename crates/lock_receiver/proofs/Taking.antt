@@ -11,7 +11,6 @@ use lib.ListN.{length, take}
 use lib.Seq.{take_all}
 use Rattle.common.specs.Choice.{pick}
 use Rattle.common.specs.Lists.{chunks}
-use Rattle.answer.specs.Number.{number_of}
 use Rattle.reed_solomon.specs.Marks.{are_marks, no_marks}
 use Rattle.reed_solomon.proofs.Marks.{are_marks_none}
 use Rattle.receiver.specs.Receive.{Ready}
@@ -95,7 +94,7 @@ module _ (v : LockReceiver) {block output lines room packet linesExit : List ℕ
     packet_is : packet ≡ take 188 (output_of s call)
     packet_is = sym (take_all 188 packet (omega arith)) ∙ ap (take 188) t.given
 
-    pub takes_one : (r : LockStep) (due start : Bool) (exit packets : List ℕ) → number_of r.answer ≡ number → due ≡ start_due_at s.sync.place → start ≡ started_at next.sync.place
+    pub takes_one : (r : LockStep) (due start : Bool) (exit packets : List ℕ) → r.number ≡ number → due ≡ start_due_at s.sync.place → start ≡ started_at next.sync.place
         → r.lock ≡ record { receiver = next; certainty = kept; packets = packets } → r.told ≡ told
         → Settles k number due start packet v.packets output packets r.given exit → TakesOne v block output lines r exit linesExit
     takes_one r due start exit packets n d b l o w = record {

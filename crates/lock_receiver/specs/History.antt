@@ -1,10 +1,12 @@
 -- Block after block from a fresh value on, and what they come to: which of the receiver's packets are given, and which are told or wait.
 -- Clauses: document 01, "Receiver"; document 02, P4 and P5.
 -- Assumes nothing.
-use Rattle.std.specs.Prelude.{◌≡◌, Bool, true, false, ℕ, ◌+◌, ◌<◌, length, get_or, take, drop, replicate}
+use Rattle.std.specs.Prelude.{◌≡◌, Bool, true, false, ℕ, ◌+◌, ◌<◌, length, get_or, take, drop, replicate, Result, Ok}
 use mathlib.Core.List.{List, [], ◌∷◌, ◌++◌, flatten}
 use Rattle.common.specs.Choice.{pick}
 use Rattle.common.specs.Lists.{All, chunks}
+use Rattle.answer.specs.Number.{given_or}
+use Rattle.answer.specs.declared.Refusal.{Refusal}
 use Rattle.group_sync.specs.declared.Outcome.{Outcome}
 use Rattle.receiver.specs.Receive.{fresh_receiver}
 use Rattle.receiver.specs.Run.{Plain, lent_blocks, after_calls, packets_given}
@@ -19,10 +21,10 @@ use Rattle.lock_receiver.specs.declared.LockStep.{LockStep}
 -- the lines that were told, one after the other. A call that was refused brings nothing.
 pub data LockTakes : List (List ℕ) → List (List ℕ) → List ℕ → LockReceiver → Type 0 where
   fresh : LockTakes [] [] [] fresh_lock
-  refusing : {blocks given : List (List ℕ)} {lines : List ℕ} {v : LockReceiver} (block output room exit roomExit : List ℕ) (r : LockStep) → LockTakes blocks given lines v
-      → 0 < lock_refusal v block output room → TakesBlock v block output room r exit roomExit → LockTakes blocks given lines r.lock
+  refusing : {blocks given : List (List ℕ)} {lines : List ℕ} {v : LockReceiver} (block output room exit roomExit : List ℕ) (r : Result LockStep Refusal) → LockTakes blocks given lines v
+      → 0 < lock_refusal v block output room → TakesBlock v block output room r exit roomExit → LockTakes blocks given lines (given_or v (λ s. s.lock) r)
   taking : {blocks given : List (List ℕ)} {lines : List ℕ} {v : LockReceiver} (block output room exit roomExit : List ℕ) (r : LockStep) → LockTakes blocks given lines v
-      → lock_refusal v block output room ≡ 0 → TakesBlock v block output room r exit roomExit
+      → lock_refusal v block output room ≡ 0 → TakesBlock v block output room (Ok r) exit roomExit
       → LockTakes (blocks ++ block ∷ []) (given ++ chunks 188 r.given exit) (lines ++ take r.told roomExit) r.lock
 
 -- ---- the packets of the list of losses

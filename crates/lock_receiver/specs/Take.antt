@@ -4,13 +4,13 @@
 --   Where anything else comes, or the lock ends, those that wait are not given: each has a line.
 -- Clauses: document 01, "Receiver"; document 02, P4.
 -- Assumes nothing.
-use Rattle.std.specs.Prelude.{◌≡◌, Bool, true, false, ℕ, ◌-◌, ◌*◌, ◌≤◌, ◌<◌, ltb, eqb, length, take, drop, replicate}
+use Rattle.std.specs.Prelude.{◌≡◌, Bool, true, false, ℕ, ◌-◌, ◌*◌, ◌≤◌, ◌<◌, ltb, eqb, length, take, drop, replicate, Result, Ok, Err}
 use mathlib.Core.List.{List, [], ◌∷◌, ◌++◌, flatten}
 use Rattle.common.specs.Choice.{pick}
 use Rattle.common.specs.Refusal.{unless, when, first_due}
 use Rattle.common.specs.Lists.{chunks}
 use Rattle.answer.specs.Number.{number_of}
-use Rattle.answer.specs.declared.Answer.{Answer}
+use Rattle.answer.specs.declared.Refusal.{Refusal}
 use Rattle.reed_solomon.specs.Marks.{DecodesMarked}
 use Rattle.receiver.specs.Receive.{fresh_receiver, receiver_in_range, delayed_block, delayed_marks}
 use Rattle.receiver.specs.Run.{Call, answer_of, after_call, output_of, Plain, OutputFits}
@@ -74,7 +74,7 @@ pub record TakesOne (v : LockReceiver) (block output lines : List ℕ) (r : Lock
   pub plain : Plain call
   pub decodes : DecodesMarked (delayed_marks v.receiver call.marks) (delayed_block v.receiver call.block) call.left call.decoded
   pub output_fits : OutputFits call
-  pub answered : number_of r.answer ≡ answer_of v.receiver call
+  pub answered : r.number ≡ answer_of v.receiver call
   pub packet_size : length (take 188 (output_of v.receiver call)) ≡ 188
   pub state : r.lock.receiver ≡ after_call v.receiver call
   pub certainty : r.lock.certainty ≡ certainty_after v.receiver v.certainty call
@@ -97,14 +97,11 @@ pub record LockReady (v : LockReceiver) (block output lines : List ℕ) : Type 0
   pub room : 8 ≤ length lines
   pub more : v.receiver.counts.taken < 4294967295
 
-abbrev pub refused_step : Answer → LockReceiver → LockStep
-refused_step answer v = record { answer = answer; given = 0; told = 0; lock = v }
-
 -- what taking a block promises: all as before, or the block taken
-pub data TakesBlock (v : LockReceiver) (block output lines : List ℕ) (r : LockStep) (exit linesExit : List ℕ) : Type 0 where
-  refused : (answer : Answer) → number_of answer ≡ lock_refusal v block output lines → 0 < number_of answer → r ≡ refused_step answer v → exit ≡ output → linesExit ≡ lines
+pub data TakesBlock (v : LockReceiver) (block output lines : List ℕ) (r : Result LockStep Refusal) (exit linesExit : List ℕ) : Type 0 where
+  refused : (answer : Refusal) → number_of answer ≡ lock_refusal v block output lines → 0 < number_of answer → r ≡ Err answer → exit ≡ output → linesExit ≡ lines
       → TakesBlock v block output lines r exit linesExit
-  taken : lock_refusal v block output lines ≡ 0 → TakesOne v block output lines r exit linesExit → TakesBlock v block output lines r exit linesExit
+  taken : (step : LockStep) → lock_refusal v block output lines ≡ 0 → r ≡ Ok step → TakesOne v block output lines step exit linesExit → TakesBlock v block output lines r exit linesExit
 
 -- ---- the end of a lock
 

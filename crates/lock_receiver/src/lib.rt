@@ -3,14 +3,14 @@
 #![tactic(auto)]
 
 ghost use Rattle.std.specs.Prelude.{◌≡◌, false, ◌≤◌, length};
-ghost use Rattle.answer.specs.Number.{number_of};
+ghost use Rattle.answer.specs.Number.{answered, given_or};
 ghost use Rattle.losses.specs.Watch.{waiting_of, is_sure, and_one_more};
 ghost use Rattle.losses.specs.Feed.{WritesLines};
-ghost use Rattle.lock_receiver.specs.Take.{fresh_lock, lock_in_range, Settles, LockReady, TakesOne, refused_step, TakesBlock, lock_end_number, lock_end_lines};
+ghost use Rattle.lock_receiver.specs.Take.{fresh_lock, lock_in_range, Settles, LockReady, TakesOne, TakesBlock, lock_end_number, lock_end_lines};
 
-use answer::Answer;
+use answer::Refusal;
 use common::put;
-use losses::{Certainty, LossesListed};
+use losses::Certainty;
 use receiver::Receiver;
 use reception_counts::Counts;
 
@@ -22,10 +22,10 @@ pub struct LockReceiver {
     pub packets: [u8; 1316],
 }
 
-// The answer of the receiver's call, how many packets were given, how many lines were told, and the value after it.
+// The number of what the block came to, how many packets were given, how many lines were told, and the value after it.
 #[derive(Clone, Copy)]
 pub struct LockStep {
-    pub answer: Answer,
+    pub number: u8,
     pub given: usize,
     pub told: usize,
     pub lock: LockReceiver,
@@ -42,10 +42,7 @@ struct Settled {
 fn is_sure(certainty: Certainty) -> bool
     ensures { result ≡ is_sure certainty }
 {
-    match certainty {
-        Certainty::Sure => true,
-        Certainty::Unsure(_) => false,
-    }
+    matches!(certainty, Certainty::Sure)
 }
 
 // Gives the packets that a block confirms and its own, or keeps its own with those that wait.
@@ -95,52 +92,24 @@ fn take_block(lock: LockReceiver, block: &[u8], output: &mut [u8], lines: &mut [
     requires { LockReady lock block.now output.old lines.old }
     ensures { TakesOne lock block.now output.old lines.old result output.new lines.new }
 {
-    let receiver = lock.receiver;
     let certainty = lock.certainty;
-    let held = lock.packets;
-    let sync = receiver.sync;
-    let place = sync.place;
-    let due = losses::start_due(place);
+    let due = losses::start_due(lock.receiver.sync.place);
     let none = [0u8; Receiver::BLOCK_LENGTH];
     let mut packet = [0u8; Receiver::PACKET_LENGTH];
-    let taken = losses::take_block(receiver, certainty, block, &none, &mut packet, lines);
-    let answer = taken.answer;
-    let next = taken.receiver;
-    let kept = taken.certainty;
-    let after = next.sync;
-    let place = after.place;
-    let start = losses::started(place);
-    let settled = settle(
-        certainty,
-        answer.number(),
-        due,
-        start,
-        &packet,
-        held,
-        output,
-    );
+    let taken = losses::take_block(lock.receiver, certainty, block, &none, &mut packet, lines);
+    let number = taken.number;
+    let start = losses::started(taken.receiver.sync.place);
+    let settled = settle(certainty, number, due, start, &packet, lock.packets, output);
     let packets = settled.packets;
     LockStep {
-        answer,
+        number,
         given: settled.given,
         told: taken.count,
         lock: LockReceiver {
-            receiver: next,
-            certainty: kept,
+            receiver: taken.receiver,
+            certainty: taken.certainty,
             packets,
         },
-    }
-}
-
-// Nothing is taken.
-fn refused(answer: Answer, lock: LockReceiver) -> LockStep
-    ensures { result ≡ refused_step answer lock }
-{
-    LockStep {
-        answer,
-        given: 0,
-        told: 0,
-        lock,
     }
 }
 
@@ -155,12 +124,10 @@ impl LockReceiver {
     pub fn new() -> LockReceiver
         ensures { result ≡ fresh_lock }
     {
-        let receiver = Receiver::new();
-        let certainty = Certainty::Unsure(0);
         LockReceiver {
-            receiver,
-            certainty,
-            packets: [0u8; 1316],
+            receiver: Receiver::new(),
+            certainty: Certainty::Unsure(0),
+            packets: [0; 1316],
         }
     }
 
@@ -168,58 +135,49 @@ impl LockReceiver {
     pub fn in_range(self) -> bool
         ensures { result ≡ lock_in_range self }
     {
-        let receiver = self.receiver;
-        let certainty = self.certainty;
-        let sync = receiver.sync;
-        let place = sync.place;
-        let counts = receiver.counts;
-        let taken = counts.taken;
-        if !receiver.in_range() {
-            return false;
-        }
-        losses::certainty_in_range(certainty, place, taken)
+        self.receiver.in_range()
+            && losses::certainty_in_range(
+                self.certainty,
+                self.receiver.sync.place,
+                self.receiver.counts.taken,
+            )
     }
 
     // Takes a block of 204 interleaved bytes, and writes the packets that it gives and the lines that it tells.
-    pub fn take(self, block: &[u8], output: &mut [u8], lines: &mut [u64]) -> LockStep
+    pub fn take(
+        self,
+        block: &[u8],
+        output: &mut [u8],
+        lines: &mut [u64],
+    ) -> Result<LockStep, Refusal>
         ensures { TakesBlock self block.now output.old lines.old result output.new lines.new }
     {
-        let receiver = self.receiver;
-        let counts = receiver.counts;
-        let taken = counts.taken;
         if !self.in_range() {
-            return refused(Answer::StateRange, self);
+            return Err(Refusal::StateRange);
         }
         if block.len() != Receiver::BLOCK_LENGTH {
-            return refused(Answer::BlockLength, self);
+            return Err(Refusal::BlockLength);
         }
         if output.len() < LockReceiver::OUTPUT_LENGTH {
-            return refused(Answer::OutputLength, self);
+            return Err(Refusal::OutputLength);
         }
         if lines.len() < LockReceiver::LINES {
-            return refused(Answer::OutputLength, self);
+            return Err(Refusal::OutputLength);
         }
-        if taken >= Counts::MOST {
-            return refused(Answer::CountsFull, self);
+        if self.receiver.counts.taken >= Counts::MOST {
+            return Err(Refusal::CountsFull);
         }
-        take_block(self, block, output, lines)
+        Ok(take_block(self, block, output, lines))
     }
 
-    // The end of the lock: a line for each packet that still waits, in doubt.
-    pub fn end(self, lines: &mut [u64]) -> LossesListed
-        ensures { (number_of result.answer ≡ lock_end_number self lines.old)
-            × WritesLines (lock_end_lines self lines.old) lines.old result.count lines.new }
+    // The end of the lock: a line for each packet that still waits, in doubt. How many lines were written.
+    pub fn end(self, lines: &mut [u64]) -> Result<usize, Refusal>
+        ensures { (answered result ≡ lock_end_number self lines.old)
+            × WritesLines (lock_end_lines self lines.old) lines.old (given_or 0 (λ n. n) result) lines.new }
     {
-        let receiver = self.receiver;
-        let certainty = self.certainty;
-        let counts = receiver.counts;
-        let taken = counts.taken;
         if !self.in_range() {
-            return LossesListed {
-                answer: Answer::StateRange,
-                count: 0,
-            };
+            return Err(Refusal::StateRange);
         }
-        losses::tell_waiting(certainty, taken, lines)
+        losses::tell_waiting(self.certainty, self.receiver.counts.taken, lines)
     }
 }

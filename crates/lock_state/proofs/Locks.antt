@@ -36,7 +36,8 @@ use Rattle.losses.specs.Watch.{waiting_of}
 use Rattle.lock_receiver.specs.Take.{waiting_packets, lock_in_range}
 use Rattle.lock_receiver.proofs.Ranges.{lock_range}
 use Rattle.lock_receiver.specs.declared.LockReceiver.{LockReceiver}
-use Rattle.lock_stream.specs.Progress.{Event, waits, found, Takes, lost_progress, Tells, nothing_told, lock_begins, lock_goes_on, lock_ends}
+use Rattle.acquisition.specs.declared.Event.{Event}
+use Rattle.lock_stream.specs.Progress.{Takes, lost_progress, Tells, nothing_told, lock_begins, lock_goes_on, lock_ends}
 use Rattle.lock_stream.specs.Source.{SourceReady, UsedReady, SourceSteps, symbols_step, bits_step, SourceEnds, symbols_end, bits_end_lem, ends_ahead}
 use Rattle.lock_stream.specs.Stream.{StreamReady, StepsStream, EndsStream}
 use Rattle.lock_stream.specs.declared.LockStream.{LockStream}
@@ -120,7 +121,7 @@ takes_cleared {next = next} n few t =
       lines_room = t.lines_room;
       packets_exit = t.packets_exit;
       lines_exit = t.lines_exit;
-      step = record { answer = r.answer; given = r.given; told = r.told; lock = cleared_receiver r.lock };
+      step = record { number = r.number; given = r.given; told = r.told; lock = cleared_receiver r.lock };
       takes =
           record {
             call = o.call;
@@ -177,9 +178,9 @@ module _ (s : LockStream) (z : Sized s) (r : in_range s ≡ true) where
   source_left (bits_step e a x q) = false_true (sym (within s z r).symbols_come ∙ e)
 
   source_cleared : {piece : List ℕ} {t : SourceStep} → SourceSteps s.source piece t
-      → SourceSteps s.source piece (record { source = cleared_source t.source; taken = t.taken; event = t.event; block = t.block })
+      → SourceSteps s.source piece (record { source = cleared_source t.source; taken = t.taken; event = t.event })
   source_cleared (symbols_step e a x q) =
-      symbols_step e (cleared_result a) (steps_cleared s.source.symbols x) (ap (λ (t : SourceStep). record { source = cleared_source t.source; taken = t.taken; event = t.event; block = t.block }) q)
+      symbols_step e (cleared_result a) (steps_cleared s.source.symbols x) (ap (λ (t : SourceStep). record { source = cleared_source t.source; taken = t.taken; event = t.event }) q)
   source_cleared (bits_step e a x q) = false_true (sym (within s z r).symbols_come ∙ e)
 
   module _ {piece packets text : List ℕ} (t : StreamStep) (h : StepsStream s piece t packets text) where
@@ -199,7 +200,7 @@ module _ (s : LockStream) (z : Sized s) (r : in_range s ≡ true) where
         record {
           steps =
               record {
-                step = record { source = cleared_source k.step.source; taken = k.step.taken; event = k.step.event; block = k.step.block };
+                step = record { source = cleared_source k.step.source; taken = k.step.taken; event = k.step.event };
                 source_steps =
                     record { steps = source_cleared a.steps; ready = ready; same = a.same; within = a.within; counted = a.counted; known = a.known; goes = a.goes };
                 taken_is = k.taken_is;
@@ -219,10 +220,10 @@ module _ (s : LockStream) (z : Sized s) (r : in_range s ≡ true) where
   source_end_left (bits_end_lem e a x q) = false_true (sym (within s z r).symbols_come ∙ e)
 
   source_end_cleared : {t : SourceEnd} → SourceEnds s.source t
-      → SourceEnds s.source (record { source = cleared_source t.source; event = t.event; block = t.block; over = t.over; left = t.left })
+      → SourceEnds s.source (record { source = cleared_source t.source; event = t.event; over = t.over })
   source_end_cleared (symbols_end e a x q) =
       symbols_end e (cleared_end a) (ends_cleared s.source.symbols (clear_reading s.source.symbols (symbols_ready s z r) (symbols_clear s z r)) (clear_same s.source.symbols (symbols_ready s z r) (symbols_clear s z r)) x)
-      (ap (λ (t : SourceEnd). record { source = cleared_source t.source; event = t.event; block = t.block; over = t.over; left = t.left }) q)
+      (ap (λ (t : SourceEnd). record { source = cleared_source t.source; event = t.event; over = t.over }) q)
   source_end_cleared (bits_end_lem e a x q) = false_true (sym (within s z r).symbols_come ∙ e)
 
   module _ {packets text : List ℕ} (t : StreamEnd) (h : EndsStream s t packets text) where
@@ -233,7 +234,7 @@ module _ (s : LockStream) (z : Sized s) (r : in_range s ≡ true) where
     end_left = subst (λ (x : LockSource). Left x.symbols) (sym h.ends.source_is) (source_end_left h.ends.source_ends.ends)
 
     pub end_cleared : length t.stream.progress.receiver.packets ≡ 1316 → waiting_of t.stream.progress.receiver.certainty ≤ 7
-        → EndsStream s (record { stream = cleared t.stream; packets = t.packets; text = t.text; over = t.over; left = t.left }) packets text
+        → EndsStream s (record { stream = cleared t.stream; packets = t.packets; text = t.text; over = t.over }) packets text
     end_cleared n few =
         let k = h.ends in
         let a = k.source_ends in
@@ -242,10 +243,9 @@ module _ (s : LockStream) (z : Sized s) (r : in_range s ≡ true) where
         record {
           ends =
               record {
-                end = record { source = cleared_source k.end.source; event = k.end.event; block = k.end.block; over = k.end.over; left = k.end.left };
+                end = record { source = cleared_source k.end.source; event = k.end.event; over = k.end.over };
                 source_ends = record { ends = source_end_cleared a.ends; ready = ready; same = a.same; counted = a.counted; known = a.known; few = a.few; goes = λ o. subst (λ (m : ℕ). m < ends_ahead s.source) (sym (ahead_cleared k.end.source)) (a.goes o) };
                 over_is = k.over_is;
-                left_is = k.left_is;
                 source_is = ap cleared_source k.source_is;
                 tells = tells_cleared (progress_same s z r) n few k.tells;
               };

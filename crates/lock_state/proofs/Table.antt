@@ -10,6 +10,7 @@ use borrow.Author.Tests.{ne_eqb, eqb-true, ltb-true}
 use lib.Dec.{eqb}
 use lib.ListN.{length, get_or, take, drop, length-append, length-drop}
 use lib.Seq.{length-take-le}
+use Rattle.std.proofs.Common.{Option, Some, None}
 use Rattle.common.specs.Choice.{pick}
 use Rattle.common.specs.Lists.{All, ByteEntries, padded, placed}
 use Rattle.common.proofs.Choice.{both_true, false_true}
@@ -31,8 +32,6 @@ use Rattle.acquisition_state.proofs.Table.{flags_byte_lem, flags_plain, flags_lo
 use Rattle.losses.specs.Watch.{waiting_of, most_waiting}
 use Rattle.losses.specs.declared.Certainty.{Certainty}
 use Rattle.losses.specs.declared.Certainty.TheVariants.{Sure, Unsure}
-use Rattle.group_sync.specs.declared.Place.{Place}
-use Rattle.group_sync.specs.declared.Place.TheVariants.{NotKnown, Known}
 use Rattle.lock_receiver.specs.Take.{lock_in_range}
 use Rattle.lock_receiver.proofs.Ranges.{lock_range}
 use Rattle.lock_receiver.specs.declared.LockReceiver.{LockReceiver}
@@ -63,9 +62,9 @@ all_split P (x ∷ xs) ys h = let k = all_split P xs ys h.1 in ((h.0, k.0), k.1)
 pub few_waiting : (v : LockReceiver) → lock_in_range v ≡ true → waiting_of v.certainty ≤ 7
 few_waiting v r = let w = (lock_range v r).waiting.0 in omega (arith, w, most v.receiver.sync.place)
   where
-    most : (p : Place) → most_waiting p ≤ 7
-    most NotKnown = omega arith
-    most (Known p) = omega arith
+    most : (p : Option ℕ) → most_waiting p ≤ 7
+    most None = omega arith
+    most (Some p) = omega arith
 
 code_again : (k : Certainty) → waiting_of k ≤ 7 → certainty_of (code_of k) ≡ k
 code_again Sure h = refl

@@ -3,7 +3,7 @@
 // Inner: its functions may require what the crates above have tested. docs/ARCHITECTURE.md names the public surface.
 #![tactic(auto)]
 
-ghost use Rattle.std.specs.Prelude.{◌≡◌, ◌++◌, ◌*◌, ◌≤◌, length, take, drop};
+ghost use Rattle.std.specs.Prelude.{◌≡◌, ◌++◌, ◌*◌, ◌≤◌, length, take};
 ghost use Rattle.common.specs.Lists.{padded};
 ghost use Rattle.losses.specs.Watch.{waiting_of};
 ghost use Rattle.reception_counts.specs.Bytes.{to_bytes};
@@ -13,7 +13,7 @@ ghost use Rattle.receiver_state.specs.State.{state_bytes as block_bytes};
 ghost use Rattle.lock_state.specs.Reading.{state_of};
 
 use acquisition_state::{flags_byte, high_of, low_of, plain_of};
-use common::{largest_of, put};
+use common::{array_at, joined, largest_of, put};
 use lock_receiver::LockReceiver;
 use lock_stream::LockStream;
 use lock_stream::progress::LockProgress;
@@ -52,16 +52,6 @@ fn code_of(certainty: Certainty) -> u8
     }
 }
 
-// A byte for each of the packets that wait.
-fn packets_at(bytes: &[u8]) -> [u8; 1316]
-    requires { length bytes.now ≡ 15121 }
-    ensures { result ≡ take 1316 (drop 13805 bytes.now) }
-{
-    let mut packets = [0u8; 1316];
-    put(&bytes[PACKETS..STATE_LENGTH], 0, &mut packets);
-    packets
-}
-
 // The lock that bytes stand for, in range or not.
 pub fn read_state(bytes: &[u8]) -> LockStream
     requires { length bytes.now ≡ 15121 }
@@ -72,7 +62,7 @@ pub fn read_state(bytes: &[u8]) -> LockStream
     let skipped = count_bytes::number_at(bytes, SKIPPED);
     let end = count_bytes::number_at(bytes, END);
     let certain = bytes[CERTAIN];
-    let packets = packets_at(bytes);
+    let packets = array_at::<1316>(bytes, PACKETS);
     let certainty = certainty_of(plain_of(certain));
     let receiver = LockReceiver {
         receiver: blocks,
@@ -132,12 +122,8 @@ fn cleared_packets(receiver: LockReceiver) -> [u8; 1316]
     requires { waiting_of receiver.certainty ≤ 7 }
     ensures { (result ≡ padded 1316 (take (188 * waiting_of receiver.certainty) receiver.packets)) × (length receiver.packets ≡ 1316) }
 {
-    let certainty = receiver.certainty;
-    let held = receiver.packets;
-    let end = 188 * losses::waiting(certainty) as usize;
-    let mut packets = [0u8; 1316];
-    put(&held[..end], 0, &mut packets);
-    packets
+    let end = 188 * losses::waiting(receiver.certainty) as usize;
+    joined::<1316>(&receiver.packets[..end], &[])
 }
 
 // Writes the fields to their places.

@@ -58,7 +58,7 @@ fresh_ready false rate a = record { used = a }
 -- ---- a step
 
 bits_steps : (s : LockSource) (piece : List ℕ) (t : BitStep) → s.bits ≡ true → 0 < length piece → StepsBits (decoded_of s.symbols) piece t → BitsReady t.source
-    → BitCounts (decoded_of s.symbols) piece t → StepsSource s piece (record { source = with_bits s t.source; taken = t.taken; event = t.event; block = t.block })
+    → BitCounts (decoded_of s.symbols) piece t → StepsSource s piece (record { source = with_bits s t.source; taken = t.taken; event = t.event })
 bits_steps s piece t e l d b n = record {
   steps = bits_step e t d refl;
   ready = ready_bits (with_bits s t.source) e b;
@@ -72,12 +72,12 @@ bits_steps s piece t e l d b n = record {
 -- of the bits that were taken out of an acquisition, and of the acquisition into which they were put back
 pub bits_stepped : (s : LockSource) (piece : List ℕ) (d : BitSource) (t : BitStep) (next : Acquisition) → s.bits ≡ true → d ≡ decoded_of s.symbols → next ≡ holding_bits s.symbols t.source
     → 0 < length piece → StepsBits d piece t → BitsReady t.source → BitCounts d piece t
-    → StepsSource s piece (record { source = record { bits = s.bits; symbols = next }; taken = t.taken; event = t.event; block = t.block })
+    → StepsSource s piece (record { source = record { bits = s.bits; symbols = next }; taken = t.taken; event = t.event })
 bits_stepped s piece d t next e u v l x b n = rw v (bits_steps s piece t e l (rw u at x) b (rw u at n))
 
 pub symbols_stepped : (s : LockSource) (piece : List ℕ) (t : Step) → s.bits ≡ false → 0 < length piece → StepsAcquisition s.symbols piece t
     → AcquisitionReady t.acquisition → StepCounts s.symbols piece t
-    → StepsSource s piece (record { source = with_symbols s t.acquisition; taken = t.taken; event = t.event; block = t.block })
+    → StepsSource s piece (record { source = with_symbols s t.acquisition; taken = t.taken; event = t.event })
 symbols_stepped s piece t e l d b n = record {
   steps = symbols_step e t d refl;
   ready = ready_symbols (with_symbols s t.acquisition) e b;
@@ -98,7 +98,7 @@ symbols_stepped s piece t e l d b n = record {
 -- ---- a step of the end
 
 bits_ends : (s : LockSource) (t : BitEnd) → s.bits ≡ true → EndsBits (decoded_of s.symbols) t → BitsReady t.source → BitEndCounts (decoded_of s.symbols) t
-    → EndsSource s (record { source = with_bits s t.source; event = t.event; block = t.block; over = t.over; left = t.left })
+    → EndsSource s (record { source = with_bits s t.source; event = t.event; over = t.over })
 bits_ends s t e d b n = record {
   ends = bits_end_lem e t d refl;
   ready = ready_bits (with_bits s t.source) e b;
@@ -114,11 +114,11 @@ bits_ends s t e d b n = record {
 
 pub bits_ended : (s : LockSource) (d : BitSource) (t : BitEnd) (next : Acquisition) → s.bits ≡ true → d ≡ decoded_of s.symbols → next ≡ holding_bits s.symbols t.source
     → EndsBits d t → BitsReady t.source → BitEndCounts d t
-    → EndsSource s (record { source = record { bits = s.bits; symbols = next }; event = t.event; block = t.block; over = t.over; left = t.left })
+    → EndsSource s (record { source = record { bits = s.bits; symbols = next }; event = t.event; over = t.over })
 bits_ended s d t next e u v x b n = rw v (bits_ends s t e (rw u at x) b (rw u at n))
 
 pub symbols_ended : (s : LockSource) (t : EndStep) → s.bits ≡ false → EndsAcquisition s.symbols t → AcquisitionReady t.acquisition → EndCounts s.symbols t
-    → EndsSource s (record { source = with_symbols s t.acquisition; event = t.event; block = t.block; over = t.over; left = t.left })
+    → EndsSource s (record { source = with_symbols s t.acquisition; event = t.event; over = t.over })
 symbols_ended s t e d b n = record {
   ends = symbols_end e t d refl;
   ready = ready_symbols (with_symbols s t.acquisition) e b;

@@ -27,6 +27,9 @@ use Rattle.lock_receiver.specs.Take.{fresh_lock, lock_in_range, waiting_packets,
 use Rattle.lock_receiver.specs.declared.LockReceiver.{LockReceiver}
 use Rattle.lock_receiver.specs.declared.LockStep.{LockStep}
 use Rattle.lock_receiver.proofs.Ranges.{lock_range}
+use Rattle.std.proofs.Common.{Ok, Err}
+use Rattle.answer.specs.Number.{given_or}
+use Rattle.answer.specs.declared.Refusal.{Refusal}
 use Rattle.lock_stream.specs.Progress.{begun_anew, Takes}
 use Rattle.lock_stream.specs.declared.progress.LockProgress.{LockProgress}
 
@@ -92,9 +95,15 @@ unrefused v block output lines r s o l m = simp (r, eq-eqb _ _ s, le-ltb _ _ o, 
 
 -- no test refuses it
 pub taken_one : {v : LockReceiver} {block output lines exit linesExit : List ℕ} {r : LockStep} → lock_in_range v ≡ true → length block ≡ 204 → 1504 ≤ length output → 8 ≤ length lines
-    → v.receiver.counts.taken < 4294967295 → TakesBlock v block output lines r exit linesExit → TakesOne v block output lines r exit linesExit
+    → v.receiver.counts.taken < 4294967295 → TakesBlock v block output lines (Ok r) exit linesExit → TakesOne v block output lines r exit linesExit
 taken_one {v} {block} {output} {lines} a s o l m (refused answer n p r e x) = let z = unrefused v block output lines a s o l m in absurd (omega arith)
-taken_one a s o l m (taken z t) = t
+taken_one {v} {block} {output} {lines} {exit} {linesExit} {r} a s o l m (taken step z q t) =
+    subst (λ (x : LockStep). TakesOne v block output lines x exit linesExit) (sym (ap (given_or r (λ (x : LockStep). x)) q)) t
+
+pub never_refused : {v : LockReceiver} {block output lines exit linesExit : List ℕ} {refusal : Refusal} → lock_in_range v ≡ true → length block ≡ 204 → 1504 ≤ length output → 8 ≤ length lines
+    → v.receiver.counts.taken < 4294967295 → TakesBlock v block output lines (Err refusal) exit linesExit → ⊥
+never_refused {v} {block} {output} {lines} a s o l m (refused answer n p r e x) = let z = unrefused v block output lines a s o l m in omega arith
+never_refused {v} {block} {output} {lines} {refusal = refusal} a s o l m (taken step z q t) = let z : ◌≡◌ {A = ℕ} 0 1 = ap (given_or 0 (λ (x : LockStep). 1)) q in omega arith
 
 waiting_few : (v : LockReceiver) → lock_in_range v ≡ true → waiting_of v.certainty ≤ 7
 waiting_few v r = omega (arith, (lock_range v r).waiting.0, most_seven v.receiver.sync.place)

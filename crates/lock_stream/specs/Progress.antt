@@ -14,6 +14,8 @@ use Rattle.lock_receiver.specs.Take.{fresh_lock, lock_in_range, waiting_told, Ta
 use Rattle.lock_receiver.specs.declared.LockReceiver.{LockReceiver}
 use Rattle.lock_receiver.specs.declared.LockStep.{LockStep}
 use Rattle.acquisition.specs.declared.FoundBlock.{FoundBlock}
+use Rattle.acquisition.specs.declared.Event.{Event}
+use Rattle.acquisition.specs.declared.Event.TheVariants.{Waits, Block, Lost}
 use Rattle.lock_stream.specs.declared.progress.LockProgress.{LockProgress}
 use Rattle.lock_stream.specs.declared.progress.Told.{Told}
 use Rattle.lock_stream.specs.declared.progress.BlockTaken.{BlockTaken}
@@ -69,12 +71,6 @@ closing_text bits p came left bytes =
 
 -- ---- an event
 
--- What happens: nothing, a block is found, or none follows.
-pub data Event : Type 0 where
-  waits : Event
-  found : FoundBlock → Event
-  lost : Event
-
 -- A block begins a lock: so it was found, or no lock lasts, or the receiver has taken as many blocks as it can count.
 abbrev pub begun_anew : LockProgress → Bool → Bool
 begun_anew p begins = pick begins true (pick p.locked (leb 4294967295 p.receiver.receiver.counts.taken) true)
@@ -91,12 +87,12 @@ lost_progress p = record { found = p.found; locked = false; receiver = p.receive
 
 -- What an event gives and tells, and the progress after it.
 pub data Tells (bits : Bool) (p : LockProgress) (packets text : List ℕ) (next : LockProgress) : Event → Type 0 where
-  nothing_told : packets ≡ [] → text ≡ [] → next ≡ p → Tells bits p packets text next waits
+  nothing_told : packets ≡ [] → text ≡ [] → next ≡ p → Tells bits p packets text next Waits
   lock_begins : (b : FoundBlock) (lines : List ℕ) (s : LockReceiver) → begun_anew p b.begins ≡ true → Takes fresh_lock b.bytes packets lines s
-      → text ≡ ending_text bits p ++ found_line bits b ++ list_text lines → next ≡ begun_progress p b s → Tells bits p packets text next (found b)
+      → text ≡ ending_text bits p ++ found_line bits b ++ list_text lines → next ≡ begun_progress p b s → Tells bits p packets text next (Block b)
   lock_goes_on : (b : FoundBlock) (lines : List ℕ) (s : LockReceiver) → begun_anew p b.begins ≡ false → Takes p.receiver b.bytes packets lines s
-      → text ≡ list_text lines → next ≡ gone_on p b s → Tells bits p packets text next (found b)
-  lock_ends : packets ≡ [] → text ≡ ending_text bits p → next ≡ lost_progress p → Tells bits p packets text next lost
+      → text ≡ list_text lines → next ≡ gone_on p b s → Tells bits p packets text next (Block b)
+  lock_ends : packets ≡ [] → text ≡ ending_text bits p → next ≡ lost_progress p → Tells bits p packets text next Lost
 
 -- The packets and the text stand at the front of their rooms.
 pub record TellsEvent (bits : Bool) (p : LockProgress) (e : Event) (r : Told) (packets text : List ℕ) : Type 0 where

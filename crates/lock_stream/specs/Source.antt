@@ -1,10 +1,11 @@
 -- Where blocks come from: received symbols, by an acquisition, or decoded bits, which the reading of an acquisition holds that reads no symbols. A step of the
 -- source is a step of the one that is used.
 -- Assumes nothing.
-use Rattle.std.specs.Prelude.{◌≡◌, Bool, true, false, List, ℕ, ◌+◌, ◌*◌, ◌<◌, ◌≤◌, length}
+use Rattle.std.specs.Prelude.{◌≡◌, Bool, true, false, List, ℕ, ◌+◌, ◌*◌, ◌<◌, ◌≤◌, length, IfSome, IsNone}
 use Rattle.common.specs.Choice.{pick}
 use Rattle.acquisition.specs.Step.{fresh_acquisition, AcquisitionReady, StepsAcquisition}
 use Rattle.acquisition.specs.End.{EndsAcquisition, end_measure}
+use Rattle.acquisition.specs.Reading.{RateKnown}
 use Rattle.acquisition.specs.Bits.{BitsReady, StepsBits, EndsBits}
 use Rattle.acquisition.specs.declared.Acquisition.{Acquisition}
 use Rattle.acquisition.specs.declared.bit_source.BitSource.{BitSource}
@@ -57,9 +58,9 @@ with_symbols s a = record { bits = s.bits; symbols = a }
 
 pub data SourceSteps (s : LockSource) (piece : List ℕ) (r : SourceStep) : Type 0 where
   symbols_step : s.bits ≡ false → (t : Step) → StepsAcquisition s.symbols piece t
-      → r ≡ record { source = with_symbols s t.acquisition; taken = t.taken; event = t.event; block = t.block } → SourceSteps s piece r
+      → r ≡ record { source = with_symbols s t.acquisition; taken = t.taken; event = t.event } → SourceSteps s piece r
   bits_step : s.bits ≡ true → (t : BitStep) → StepsBits (decoded_of s.symbols) piece t
-      → r ≡ record { source = with_bits s t.source; taken = t.taken; event = t.event; block = t.block } → SourceSteps s piece r
+      → r ≡ record { source = with_bits s t.source; taken = t.taken; event = t.event } → SourceSteps s piece r
 
 -- how many steps are ahead, at most: it takes symbols, or those that are pending get fewer
 abbrev pub steps_ahead : LockSource → ℕ → ℕ
@@ -71,16 +72,16 @@ pub record StepsSource (s : LockSource) (piece : List ℕ) (r : SourceStep) : Ty
   pub same : r.source.bits ≡ s.bits
   pub within : r.taken ≤ length piece
   pub counted : came_of r.source ≡ came_of s + r.taken
-  pub known : r.block.rate < 5
+  pub known : RateKnown r.event
   pub goes : (left : ℕ) → steps_ahead r.source left < steps_ahead s (left + r.taken)
 
 -- ---- a step of the end
 
 pub data SourceEnds (s : LockSource) (r : SourceEnd) : Type 0 where
   symbols_end : s.bits ≡ false → (t : EndStep) → EndsAcquisition s.symbols t
-      → r ≡ record { source = with_symbols s t.acquisition; event = t.event; block = t.block; over = t.over; left = t.left } → SourceEnds s r
+      → r ≡ record { source = with_symbols s t.acquisition; event = t.event; over = t.over } → SourceEnds s r
   bits_end_lem : s.bits ≡ true → (t : BitEnd) → EndsBits (decoded_of s.symbols) t
-      → r ≡ record { source = with_bits s t.source; event = t.event; block = t.block; over = t.over; left = t.left } → SourceEnds s r
+      → r ≡ record { source = with_bits s t.source; event = t.event; over = t.over } → SourceEnds s r
 
 abbrev pub ends_ahead : LockSource → ℕ
 ends_ahead s = pick s.bits s.symbols.reading.sync.held (end_measure s.symbols)
@@ -90,6 +91,6 @@ pub record EndsSource (s : LockSource) (r : SourceEnd) : Type 0 where
   pub ready : SourceReady r.source
   pub same : r.source.bits ≡ s.bits
   pub counted : came_of r.source ≡ came_of s
-  pub known : r.block.rate < 5
-  pub few : r.left < 1632
-  pub goes : r.over ≡ false → ends_ahead r.source < ends_ahead s
+  pub known : RateKnown r.event
+  pub few : IfSome r.over (λ left. left < 1632)
+  pub goes : IsNone r.over → ends_ahead r.source < ends_ahead s

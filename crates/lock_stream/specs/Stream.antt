@@ -1,23 +1,14 @@
 -- A stream of locks: what a step of it gives and tells, step after step, and its end.
 -- Assumes nothing.
-use Rattle.std.specs.Prelude.{◌≡◌, Bool, true, false, List, [], ◌++◌, ℕ, ◌≤◌, take}
+use Rattle.std.specs.Prelude.{◌≡◌, Bool, true, List, [], ◌++◌, ℕ, ◌≤◌, take, Option, None}
 use Rattle.lock_receiver.specs.Take.{lock_in_range}
-use Rattle.acquisition.specs.declared.FoundBlock.{FoundBlock}
-use Rattle.acquisition.specs.declared.Event.TheVariants.{Waits, Block, Lost}
-use Rattle.acquisition.specs.declared.Event as acquisition
-use Rattle.lock_stream.specs.Progress.{fresh_progress, Event, waits, found, lost, Tells}
+use Rattle.lock_stream.specs.Progress.{fresh_progress, Tells}
 use Rattle.lock_stream.specs.Source.{fresh_source, SourceReady, StepsSource, EndsSource}
 use Rattle.lock_stream.specs.declared.LockStream.{LockStream}
 use Rattle.lock_stream.specs.declared.StreamStep.{StreamStep}
 use Rattle.lock_stream.specs.declared.StreamEnd.{StreamEnd}
 use Rattle.lock_stream.specs.declared.source.SourceStep.{SourceStep}
 use Rattle.lock_stream.specs.declared.source.SourceEnd.{SourceEnd}
-
--- an event with the block that stands beside it
-abbrev pub event_of : acquisition.Event → FoundBlock → Event
-event_of Waits b = waits
-event_of Block b = found b
-event_of Lost b = lost
 
 unfoldable pub fresh_stream : Bool → ℕ → LockStream
 fresh_stream bits rate = record { source = fresh_source bits rate; progress = fresh_progress }
@@ -34,7 +25,7 @@ pub record StreamSteps (s : LockStream) (piece : List ℕ) (taken : ℕ) (packet
   pub source_steps : StepsSource s.source piece step
   pub taken_is : taken ≡ step.taken
   pub source_is : next.source ≡ step.source
-  pub tells : Tells s.source.bits s.progress packets text next.progress (event_of step.event step.block)
+  pub tells : Tells s.source.bits s.progress packets text next.progress step.event
 
 -- They stand at the front of their rooms.
 pub record StepsStream (s : LockStream) (piece : List ℕ) (r : StreamStep) (packets text : List ℕ) : Type 0 where
@@ -45,16 +36,15 @@ pub record StepsStream (s : LockStream) (piece : List ℕ) (r : StreamStep) (pac
 
 -- ---- a step of the end
 
-pub record StreamEnds (s : LockStream) (over : Bool) (left : ℕ) (packets text : List ℕ) (next : LockStream) : Type 0 where
+pub record StreamEnds (s : LockStream) (over : Option ℕ) (packets text : List ℕ) (next : LockStream) : Type 0 where
   pub end : SourceEnd
   pub source_ends : EndsSource s.source end
   pub over_is : over ≡ end.over
-  pub left_is : left ≡ end.left
   pub source_is : next.source ≡ end.source
-  pub tells : Tells s.source.bits s.progress packets text next.progress (event_of end.event end.block)
+  pub tells : Tells s.source.bits s.progress packets text next.progress end.event
 
 pub record EndsStream (s : LockStream) (r : StreamEnd) (packets text : List ℕ) : Type 0 where
-  pub ends : StreamEnds s r.over r.left (take r.packets packets) (take r.text text) r.stream
+  pub ends : StreamEnds s r.over (take r.packets packets) (take r.text text) r.stream
   pub packets_fit : r.packets ≤ 1504
   pub text_fits : r.text ≤ 2048
   pub ready : StreamReady r.stream
@@ -68,7 +58,7 @@ pub data LockSteps (bits : Bool) (rate : ℕ) : List ℕ → List ℕ → List �
       → StreamSteps s piece taken given told next → LockSteps bits rate (came ++ take taken piece) (packets ++ given) (text ++ told) next
 
 -- The end: step after step until one is over, with so many bits behind the last block.
-pub data LockEnds (s : LockStream) : Bool → ℕ → List ℕ → List ℕ → LockStream → Type 0 where
-  ending : LockEnds s false 0 [] [] s
-  ended : {packets text : List ℕ} {t next : LockStream} {left : ℕ} (over : Bool) (last : ℕ) (given told : List ℕ) → LockEnds s false left packets text t
-      → StreamEnds t over last given told next → LockEnds s over last (packets ++ given) (text ++ told) next
+pub data LockEnds (s : LockStream) : Option ℕ → List ℕ → List ℕ → LockStream → Type 0 where
+  ending : LockEnds s None [] [] s
+  ended : {packets text : List ℕ} {t next : LockStream} (over : Option ℕ) (given told : List ℕ) → LockEnds s None packets text t
+      → StreamEnds t over given told next → LockEnds s over (packets ++ given) (text ++ told) next

@@ -7,11 +7,12 @@ ghost use Rattle.std.specs.Prelude.{◌≡◌, true, ◌+◌, ◌<◌, ◌≤◌
 ghost use Rattle.common.specs.Lists.{All};
 ghost use Rattle.report_lines.specs.Line.{Appended};
 ghost use Rattle.lock_receiver.specs.Take.{lock_in_range};
+ghost use Rattle.acquisition.specs.Reading.{RateKnown};
 ghost use Rattle.lock_stream.specs.Progress.{closing_text, TellsEvent};
 ghost use Rattle.lock_stream.specs.Source.{came_of};
-ghost use Rattle.lock_stream.specs.Stream.{event_of, fresh_stream, StreamReady, StepsStream, EndsStream};
+ghost use Rattle.lock_stream.specs.Stream.{fresh_stream, StreamReady, StepsStream, EndsStream};
 
-use acquisition::{Event, FoundBlock};
+use acquisition::Event;
 
 pub mod progress;
 pub mod source;
@@ -35,15 +36,14 @@ pub struct StreamStep {
     pub text: usize,
 }
 
-// The stream after a step of the end, how many bytes of packets and of text were written, whether that was all, and how many bits are behind the last block of
-// a lock that lasts.
+// The stream after a step of the end, how many bytes of packets and of text were written, and, where that was all, how many bits are behind the last block of a
+// lock that lasts.
 #[derive(Clone, Copy)]
 pub struct StreamEnd {
     pub stream: LockStream,
     pub packets: usize,
     pub text: usize,
-    pub over: bool,
-    pub left: usize,
+    pub over: Option<usize>,
 }
 
 // Writes the packets that an event gives, and the lines that it tells.
@@ -51,12 +51,11 @@ fn tell(
     bits: bool,
     progress: LockProgress,
     event: Event,
-    block: FoundBlock,
     packets: &mut [u8],
     text: &mut [u8],
 ) -> Told
-    requires { (lock_in_range progress.receiver ≡ true) × (block.rate < 5) × (1504 ≤ length packets.old) × (2048 ≤ length text.old) }
-    ensures { TellsEvent bits progress (event_of event block) result packets.new text.new }
+    requires { (lock_in_range progress.receiver ≡ true) × (RateKnown event) × (1504 ≤ length packets.old) × (2048 ≤ length text.old) }
+    ensures { TellsEvent bits progress event result packets.new text.new }
 {
     match event {
         Event::Waits => Told {
@@ -64,7 +63,7 @@ fn tell(
             packets: 0,
             text: 0,
         },
-        Event::Block => crate::progress::tell_block(bits, progress, block, packets, text),
+        Event::Block(block) => crate::progress::tell_block(bits, progress, block, packets, text),
         Event::Lost => crate::progress::tell_lost(bits, progress, text),
     }
 }
@@ -86,17 +85,13 @@ impl LockStream {
             × (1504 ≤ length packets.old) × (2048 ≤ length text.old) }
         ensures { StepsStream self piece.now result packets.new text.new }
     {
-        let source = self.source;
-        let progress = self.progress;
-        let bits = source.bits;
-        let step = source.step(piece);
-        let event = step.event;
-        let block = step.block;
-        let source = step.source;
-        let told = tell(bits, progress, event, block, packets, text);
-        let progress = told.progress;
+        let step = self.source.step(piece);
+        let told = tell(self.source.bits, self.progress, step.event, packets, text);
         StreamStep {
-            stream: LockStream { source, progress },
+            stream: LockStream {
+                source: step.source,
+                progress: told.progress,
+            },
             taken: step.taken,
             packets: told.packets,
             text: told.text,
@@ -108,21 +103,16 @@ impl LockStream {
         requires { (StreamReady self) × (1504 ≤ length packets.old) × (2048 ≤ length text.old) }
         ensures { EndsStream self result packets.new text.new }
     {
-        let source = self.source;
-        let progress = self.progress;
-        let bits = source.bits;
-        let step = source.end_step();
-        let event = step.event;
-        let block = step.block;
-        let source = step.source;
-        let told = tell(bits, progress, event, block, packets, text);
-        let progress = told.progress;
+        let step = self.source.end_step();
+        let told = tell(self.source.bits, self.progress, step.event, packets, text);
         StreamEnd {
-            stream: LockStream { source, progress },
+            stream: LockStream {
+                source: step.source,
+                progress: told.progress,
+            },
             packets: told.packets,
             text: told.text,
             over: step.over,
-            left: step.left,
         }
     }
 
@@ -132,8 +122,6 @@ impl LockStream {
         ensures { Appended (closing_text self.source.bits self.progress (came_of self.source) left bytes) text.old text.new 0 result 1024 }
     {
         let source = self.source;
-        let progress = self.progress;
-        let bits = source.bits;
-        crate::progress::put_closing(bits, progress, source.came(), left, bytes, text)
+        crate::progress::put_closing(source.bits, self.progress, source.came(), left, bytes, text)
     }
 }

@@ -5,7 +5,8 @@ ghost use Rattle.reception_counts.specs.Counts.{counts_in_range};
 ghost use Rattle.report.specs.Text.{report_text};
 ghost use Rattle.report_lines.specs.Line.{Appended};
 ghost use Rattle.lock_receiver.specs.Take.{lock_in_range};
-ghost use Rattle.lock_stream.specs.Progress.{fresh_progress, found_line, waiting_text, lost_lines, ending_text, closing_text, begun_anew, TakesText, found, lost, TellsEvent};
+ghost use Rattle.lock_stream.specs.Progress.{fresh_progress, found_line, waiting_text, lost_lines, ending_text, closing_text, begun_anew, TakesText, TellsEvent};
+ghost use Rattle.acquisition.specs.declared.Event.TheVariants.{Block, Lost};
 
 use acquisition::FoundBlock;
 use answer_lines::put_list;
@@ -47,8 +48,8 @@ fn put_report(counts: Counts, rest: u64, at: usize, text: &mut [u8]) -> usize
     ensures { Appended (report_text (report_of counts rest)) text.old text.new at result (at + 320) }
 {
     let mut own = [0u8; 320];
-    let written = report::write_report(receiver_stream::report_of(counts, rest), &mut own);
-    let n = written.length;
+    let report = receiver_stream::report_of(counts, rest);
+    let n = report::write_report(report, &mut own).unwrap_or(0);
     put(&own[..n], at, text);
     at + n
 }
@@ -59,8 +60,8 @@ fn put_waiting(receiver: LockReceiver, at: usize, text: &mut [u8]) -> usize
     ensures { Appended (waiting_text receiver) text.old text.new at result (at + 512) }
 {
     let mut lines = [0u64; 8];
-    let ended = receiver.end(&mut lines);
-    let count = ended.count;
+    // There is room for a line for each packet that waits.
+    let count = receiver.end(&mut lines).unwrap_or(0);
     put_list(&lines, count, at, text)
 }
 
@@ -134,12 +135,17 @@ fn take_block(
     ensures { TakesText receiver block at text.old result packets.new text.new }
 {
     let mut lines = [0u64; 8];
-    let step = receiver.take(&block, packets, &mut lines);
-    let count = step.told;
-    let next = step.lock;
-    let end = put_list(&lines, count, at, text);
+    // No test refuses a block of a lock.
+    let Ok(step) = receiver.take(&block, packets, &mut lines) else {
+        return BlockTaken {
+            receiver,
+            packets: 0,
+            text: at,
+        };
+    };
+    let end = put_list(&lines, step.told, at, text);
     BlockTaken {
-        receiver: next,
+        receiver: step.lock,
         packets: 188 * step.given,
         text: end,
     }
@@ -184,7 +190,7 @@ fn begin_lock(
     text: &mut [u8],
 ) -> Told
     requires { (lock_in_range progress.receiver ≡ true) × (begun_anew progress block.begins ≡ true) × (block.rate < 5) × (1504 ≤ length packets.old) × (2048 ≤ length text.old) }
-    ensures { TellsEvent bits progress (found block) result packets.new text.new }
+    ensures { TellsEvent bits progress (Block block) result packets.new text.new }
 {
     let start = block.start;
     let end = block.end;
@@ -216,7 +222,7 @@ fn follow_lock(
     text: &mut [u8],
 ) -> Told
     requires { (lock_in_range progress.receiver ≡ true) × (begun_anew progress block.begins ≡ false) × (1504 ≤ length packets.old) × (2048 ≤ length text.old) }
-    ensures { TellsEvent bits progress (found block) result packets.new text.new }
+    ensures { TellsEvent bits progress (Block block) result packets.new text.new }
 {
     let lock = progress.receiver;
     let end = block.end;
@@ -245,7 +251,7 @@ pub fn tell_block(
     text: &mut [u8],
 ) -> Told
     requires { (lock_in_range progress.receiver ≡ true) × (block.rate < 5) × (1504 ≤ length packets.old) × (2048 ≤ length text.old) }
-    ensures { TellsEvent bits progress (found block) result packets.new text.new }
+    ensures { TellsEvent bits progress (Block block) result packets.new text.new }
 {
     if begun_anew(progress, block.begins) {
         return begin_lock(bits, progress, block, packets, text);
@@ -256,7 +262,7 @@ pub fn tell_block(
 // Writes the lines where no block follows: a lock that lasts ends.
 pub fn tell_lost(bits: bool, progress: LockProgress, text: &mut [u8]) -> Told
     requires { (lock_in_range progress.receiver ≡ true) × (2048 ≤ length text.old) }
-    ensures { (packets : List ℕ) → TellsEvent bits progress lost result packets text.new }
+    ensures { (packets : List ℕ) → TellsEvent bits progress Lost result packets text.new }
 {
     let receiver = progress.receiver;
     let size = put_ending(bits, progress, text);

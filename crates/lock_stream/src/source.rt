@@ -5,7 +5,7 @@ ghost use Rattle.common.specs.Lists.{All};
 ghost use Rattle.lock_stream.specs.Source.{fresh_source, came_of, decoded_of, holding_bits, SourceReady, StepsSource, EndsSource};
 
 use acquisition::bit_source::BitSource;
-use acquisition::{Acquisition, Event, FoundBlock, Reading};
+use acquisition::{Acquisition, Event, Reading};
 
 // Whether bits come, and the acquisition that takes the symbols or holds the bits.
 #[derive(Clone, Copy)]
@@ -14,34 +14,29 @@ pub struct LockSource {
     pub symbols: Acquisition,
 }
 
-// The source after a step, how many symbols or bits were taken, what happened, and the block where one was found.
+// The source after a step, how many symbols or bits were taken, and what happened.
 #[derive(Clone, Copy)]
 pub struct SourceStep {
     pub source: LockSource,
     pub taken: usize,
     pub event: Event,
-    pub block: FoundBlock,
 }
 
-// The source after a step of the end, what happened, whether that was all, and how many bits are behind the last block of a lock that lasts.
+// The source after a step of the end, what happened, and, where that was all, how many bits are behind the last block of a lock that lasts.
 #[derive(Clone, Copy)]
 pub struct SourceEnd {
     pub source: LockSource,
     pub event: Event,
-    pub block: FoundBlock,
-    pub over: bool,
-    pub left: usize,
+    pub over: Option<usize>,
 }
 
 // The bits that an acquisition holds.
 fn decoded_of(symbols: Acquisition) -> BitSource
     ensures { result ≡ decoded_of symbols }
 {
-    let reading = symbols.reading;
-    let sync = reading.sync;
     BitSource {
-        sync,
-        used: reading.used,
+        sync: symbols.reading.sync,
+        used: symbols.reading.used,
         came: symbols.came,
     }
 }
@@ -51,18 +46,15 @@ fn holding_bits(symbols: Acquisition, decoded: BitSource) -> Acquisition
     ensures { result ≡ holding_bits symbols decoded }
 {
     let reading = symbols.reading;
-    let runs = reading.runs;
-    let sync = decoded.sync;
-    let phase = symbols.phase;
     let pending = symbols.pending;
     Acquisition {
         rate: symbols.rate,
         mirrored: symbols.mirrored,
-        phase,
+        phase: symbols.phase,
         reading: Reading {
             turn: reading.turn,
-            runs,
-            sync,
+            runs: reading.runs,
+            sync: decoded.sync,
             first: reading.first,
             used: decoded.used,
         },
@@ -86,8 +78,7 @@ impl LockSource {
     pub fn came(self) -> u64
         ensures { result ≡ came_of self }
     {
-        let symbols = self.symbols;
-        symbols.came
+        self.symbols.came
     }
 
     // Takes some of the symbols or bits of a piece.
@@ -100,32 +91,24 @@ impl LockSource {
         if bits {
             let source = decoded_of(symbols);
             let step = source.step(piece);
-            let after = step.source;
-            let next = holding_bits(symbols, after);
-            let event = step.event;
-            let block = step.block;
+            let next = holding_bits(symbols, step.source);
             return SourceStep {
                 source: LockSource {
                     bits,
                     symbols: next,
                 },
                 taken: step.taken,
-                event,
-                block,
+                event: step.event,
             };
         }
         let step = symbols.step(piece);
-        let next = step.acquisition;
-        let event = step.event;
-        let block = step.block;
         SourceStep {
             source: LockSource {
                 bits,
-                symbols: next,
+                symbols: step.acquisition,
             },
             taken: step.taken,
-            event,
-            block,
+            event: step.event,
         }
     }
 
@@ -139,34 +122,24 @@ impl LockSource {
         if bits {
             let source = decoded_of(symbols);
             let step = source.end_step();
-            let after = step.source;
-            let next = holding_bits(symbols, after);
-            let event = step.event;
-            let block = step.block;
+            let next = holding_bits(symbols, step.source);
             return SourceEnd {
                 source: LockSource {
                     bits,
                     symbols: next,
                 },
-                event,
-                block,
+                event: step.event,
                 over: step.over,
-                left: step.left,
             };
         }
         let step = symbols.end_step();
-        let next = step.acquisition;
-        let event = step.event;
-        let block = step.block;
         SourceEnd {
             source: LockSource {
                 bits,
-                symbols: next,
+                symbols: step.acquisition,
             },
-            event,
-            block,
+            event: step.event,
             over: step.over,
-            left: step.left,
         }
     }
 }

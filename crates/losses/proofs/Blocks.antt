@@ -13,11 +13,9 @@ use Rattle.common.specs.Choice.{pick}
 use Rattle.common.specs.Lists.{chunks_of, rest_of}
 use Rattle.common.proofs.Chunks.{length_rest, chunks_few, chunks_more, rest_few, cut}
 use Rattle.common.proofs.Lists.{All-append}
-use Rattle.answer.specs.Number.{number_of}
 use Rattle.receiver.specs.Receive.{ReceivesMarked}
 use Rattle.receiver.specs.Run.{Call, DecodedCalls, answer_of, after_call, after_calls, OutputFits}
 use Rattle.receiver.specs.declared.Receiver.{Receiver}
-use Rattle.receiver.specs.declared.Received.{Received}
 use Rattle.receiver.proofs.Reached.{CallDecoded, call_decoded}
 use Rattle.losses.specs.Watch.{start_due_at, started_at, lines_now, certainty_next, call_lines, certainty_after, lines_of, certainty_of}
 use Rattle.losses.specs.Feed.{bytes_held, held_marks, Listing, ListsPiece, WritesLines}
@@ -157,15 +155,15 @@ module _ {i next : LossStream} {part marks block own : List ℕ} (b : block ≡ 
 
 -- ---- a call of the receiver
 
-module _ (s : Receiver) (k : Certainty) {block marks room packet : List ℕ} {r : Received} (enough : 188 ≤ length room) (m : ReceivesMarked s block marks room r packet) where
-  abbrev v : CallDecoded s block marks room r packet
+module _ (s : Receiver) (k : Certainty) {block marks room packet : List ℕ} {number : ℕ} {next : Receiver} (enough : 188 ≤ length room) (m : ReceivesMarked s block marks room number next packet) where
+  abbrev v : CallDecoded s block marks room number next packet
   v = call_decoded m
 
   abbrev call : Call
   call = record { block = block; marks = marks; output = room; left = v.left; decoded = v.decoded }
 
   -- while the delays fill
-  pub filling_block : s.counts.taken < 11 → (output : List ℕ) → TakesBlock s k block marks room output (number_of r.answer) 0 r.receiver k packet output
+  pub filling_block : s.counts.taken < 11 → (output : List ℕ) → TakesBlock s k block marks room output number 0 next k packet output
   filling_block h output = record {
     call = call;
     lent = refl;
@@ -184,11 +182,11 @@ module _ (s : Receiver) (k : Certainty) {block marks room packet : List ℕ} {r 
           ap (λ (t : Bool). pick t [] (lines_now k (s.counts.taken - 11) (answer_of s call) (start_due_at s.sync.place) (started_at (after_call s call).sync.place))) (lt-ltb _ _ h)
 
   -- and then
-  pub decided_block : 11 ≤ s.counts.taken → (number : ℕ) (due start : Bool) (kept : Certainty) (output exit : List ℕ) (count : ℕ)
-      → number ≡ number_of r.answer → due ≡ start_due_at s.sync.place → start ≡ started_at r.receiver.sync.place
+  pub decided_block : 11 ≤ s.counts.taken → (due start : Bool) (kept : Certainty) (output exit : List ℕ) (count : ℕ)
+      → due ≡ start_due_at s.sync.place → start ≡ started_at next.sync.place
       → kept ≡ certainty_next k number start → WritesLines (lines_now k (s.counts.taken - 11) number due start) output count exit
-      → TakesBlock s k block marks room output (number_of r.answer) count r.receiver kept packet exit
-  decided_block h number due start kept output exit count n d t e w = record {
+      → TakesBlock s k block marks room output number count next kept packet exit
+  decided_block h due start kept output exit count d t e w = record {
     call = call;
     lent = refl;
     marked = refl;
@@ -204,7 +202,7 @@ module _ (s : Receiver) (k : Certainty) {block marks room packet : List ℕ} {r 
   }
     where
       answered : number ≡ answer_of s call
-      answered = n ∙ v.number
+      answered = v.number
 
       begun : start ≡ started_at (after_call s call).sync.place
       begun = t ∙ ap (λ (x : Receiver). started_at x.sync.place) v.state

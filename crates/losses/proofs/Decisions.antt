@@ -9,9 +9,12 @@ use native.Mathlib.Omega.{arith}
 use borrow.Author.Tests.{le-ltb, ltb-false}
 use lib.Dec.{ltb}
 use lib.ListN.{length, drop, set, length-append}
+use Rattle.std.proofs.Common.{Option, Some, None}
 use Rattle.common.specs.Choice.{pick}
-use Rattle.group_sync.specs.declared.Place.{Place}
-use Rattle.group_sync.specs.declared.Place.TheVariants.{NotKnown, Known}
+use Rattle.std.proofs.Common.{Result, Ok, Err}
+use Rattle.std.specs.Result.{result_unwrap_or}
+use Rattle.answer.specs.Number.{given_or}
+use Rattle.answer.specs.declared.Refusal.{Refusal}
 use Rattle.losses.specs.List.{doubts}
 use Rattle.losses.specs.Watch.{waiting_of, waiting_lines, most_waiting, certainty_in_range}
 use Rattle.losses.specs.Feed.{WritesLines}
@@ -52,8 +55,13 @@ writes_behind lines output exit n v w h =
           ∙ ap (λ (m : ℕ). (lines ++ v ∷ []) ++ drop (m + 1) output) (sym e);
     }
 
+-- how many lines end a list: none where that was refused
+pub told_count : (r : Result ℕ Refusal) → given_or 0 (λ n. n) r ≡ result_unwrap_or r 0
+told_count (Ok n) = refl
+told_count (Err refusal) = refl
+
 -- no more wait than can
-pub range_fits : (k : Certainty) (place : Place) (taken : ℕ) → certainty_in_range k place taken ≡ true → (waiting_of k ≤ most_waiting place) × (waiting_of k ≤ taken - 11)
+pub range_fits : (k : Certainty) (place : Option ℕ) (taken : ℕ) → certainty_in_range k place taken ≡ true → (waiting_of k ≤ most_waiting place) × (waiting_of k ≤ taken - 11)
 range_fits k place taken e =
     let a = first (ltb (most_waiting place) (waiting_of k)) (pick (ltb (taken - 11) (waiting_of k)) false true) e in
     (ltb-false _ _ a.0, ltb-false _ _ (first (ltb (taken - 11) (waiting_of k)) true a.1).0)
@@ -62,9 +70,9 @@ range_fits k place taken e =
     first true t e = absurd (false≢true e)
     first false t e = (refl, e)
 
-pub fits_range : (k : Certainty) (place : Place) (taken : ℕ) → waiting_of k ≤ most_waiting place → waiting_of k ≤ taken - 11 → certainty_in_range k place taken ≡ true
+pub fits_range : (k : Certainty) (place : Option ℕ) (taken : ℕ) → waiting_of k ≤ most_waiting place → waiting_of k ≤ taken - 11 → certainty_in_range k place taken ≡ true
 fits_range k place taken h l = simp (le-ltb (most_waiting place) (waiting_of k) h, le-ltb (taken - 11) (waiting_of k) l)
 
-pub most_seven : (place : Place) → most_waiting place ≤ 7
-most_seven NotKnown = omega arith
-most_seven (Known p) = omega arith
+pub most_seven : (place : Option ℕ) → most_waiting place ≤ 7
+most_seven None = omega arith
+most_seven (Some p) = omega arith

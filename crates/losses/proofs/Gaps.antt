@@ -8,18 +8,17 @@ use Prim.Native.Nat.{ℕ, zero, suc, ◌+◌, ◌%◌, ◌≤◌, ◌<◌}
 use Prim.{tt}
 use native.Mathlib.Omega.{arith}
 use lib.ListN.{length, get_or, take, drop, get_or-append}
+use Rattle.std.proofs.Common.{Some, Ok, Err}
 use Rattle.common.specs.Lists.{All}
 use Rattle.common.proofs.Lists.{All-at}
 use Rattle.reed_solomon.specs.Encode.{encoded, check_bytes}
-use Rattle.reed_solomon.specs.declared.Decoded.{Decoded}
-use Rattle.reed_solomon.specs.declared.Decoded.TheVariants.{Corrected, Uncorrectable, BlockLength, MarkValue}
+use Rattle.reed_solomon.specs.Decode.{Decoded}
 use Rattle.randomizer.specs.Packet.{randomized, derandomized}
 use Rattle.randomizer.specs.Stream.{Packet}
 use Rattle.randomizer.proofs.Laws.{first_byte}
 use Rattle.randomizer.proofs.Whole.{packet_lengths}
 use Rattle.group_sync.specs.Group.{due_byte, fresh_sync, group_step}
 use Rattle.group_sync.specs.Stream.{outcomes}
-use Rattle.group_sync.specs.declared.BlockDecoding.TheVariants as decoding
 use Rattle.group_sync.specs.declared.Outcome.{Outcome}
 use Rattle.group_sync.specs.declared.Outcome.TheVariants.{Filling, Delivered, Lost, Waiting, OutOfStep}
 use Rattle.group_sync.specs.declared.GroupSync.{GroupSync}
@@ -73,11 +72,9 @@ first_given_at [] h = absurd h
 first_given_at (o ∷ os) h = given_at o h
 
 -- a block that was given is a codeword
-accepted_due : (s : GroupSync) (decoded : Decoded) (first due : ℕ) → Given (group_step s (decoding_of decoded first)).outcome → first ≡ due → decoding_of decoded first ≡ decoding.Accepted due
-accepted_due s (Corrected changed) first due g e = ap decoding.Accepted e
-accepted_due s Uncorrectable first due g e = absurd g
-accepted_due s BlockLength first due g e = absurd g
-accepted_due s MarkValue first due g e = absurd g
+accepted_due : (s : GroupSync) (decoded : Decoded) (first due : ℕ) → Given (group_step s (decoding_of decoded first)).outcome → first ≡ due → decoding_of decoded first ≡ Some due
+accepted_due s (Ok changed) first due g e = ap Some e
+accepted_due s (Err refusal) first due g e = absurd g
 
 sent_from_lem : (cs : List Call) (s : GroupSync) (n : ℕ → ℕ)
     → ((i p : ℕ) → get_or (outcomes s (decodings cs)) i Lost ≡ Delivered p → get_or (get_or (lefts cs) i []) 0 0 ≡ due_byte (n i % 8))

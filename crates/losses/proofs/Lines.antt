@@ -10,13 +10,11 @@ use native.Mathlib.Omega.{arith}
 use borrow.Author.Tests.{ne_eqb, lt-ltb, le-ltb, ltb-true}
 use lib.Dec.{eqb}
 use lib.ListN.{length, get_or}
+use Rattle.std.proofs.Common.{Option, Some, None}
 use Rattle.common.specs.Choice.{pick}
 use Rattle.common.proofs.Choice.{both_true}
 use Rattle.group_sync.specs.Group.{later_place, place_in_range, sync_in_range, group_step, step}
 use Rattle.group_sync.specs.Stream.{outcomes}
-use Rattle.group_sync.specs.declared.Place.{Place}
-use Rattle.group_sync.specs.declared.Place.TheVariants.{NotKnown, Known}
-use Rattle.group_sync.specs.declared.BlockDecoding.{BlockDecoding}
 use Rattle.group_sync.specs.declared.Outcome.{Outcome}
 use Rattle.group_sync.specs.declared.Outcome.TheVariants.{Filling, Delivered, Lost, Waiting, OutOfStep}
 use Rattle.group_sync.specs.declared.GroupSync.{GroupSync}
@@ -57,42 +55,42 @@ one_doubt_more block n h =
 -- ---- all the lines, by group synchronization
 
 -- what is known after a block, and the lines that it decides
-abbrev step_lines : Place → Certainty → ℕ → GroupStep → List ℕ
+abbrev step_lines : Option ℕ → Certainty → ℕ → GroupStep → List ℕ
 step_lines place k block g = lines_now k block (outcome_number g.outcome) (start_due_at place) (started_at g.sync.place)
 
 abbrev step_certainty : Certainty → GroupStep → Certainty
 step_certainty k g = certainty_next k (outcome_number g.outcome) (started_at g.sync.place)
 
 -- block after block, and the end
-abbrev pub lines_of_all : GroupSync → Certainty → ℕ → List BlockDecoding → List ℕ
+abbrev pub lines_of_all : GroupSync → Certainty → ℕ → List (Option ℕ) → List ℕ
 lines_of_all s k block [] = waiting_lines k block
 lines_of_all s k block (d ∷ ds) = step_lines s.place k block (group_step s d) ++ lines_of_all (group_step s d).sync (step_certainty k (group_step s d)) (block + 1) ds
 
 -- no more wait than can
-pub record Fits (k : Certainty) (place : Place) (block : ℕ) : Type 0 where
+pub record Fits (k : Certainty) (place : Option ℕ) (block : ℕ) : Type 0 where
   pub by_place : waiting_of k ≤ most_waiting place
   pub by_block : waiting_of k ≤ block
 
-abbrev pub due_of : Place → ℕ
-due_of NotKnown = 1
-due_of (Known p) = p
+abbrev pub due_of : Option ℕ → ℕ
+due_of None = 1
+due_of (Some p) = p
 
 -- the packets that wait, where what follows does not confirm them
-abbrev open_lines : Place → Certainty → ℕ → List Outcome → List ℕ
+abbrev open_lines : Option ℕ → Certainty → ℕ → List Outcome → List ℕ
 open_lines place k block os = pick (confirmed (due_of place) os) [] (waiting_lines k block)
 
 -- ---- what they mean
 
-abbrev Means : GroupSync → Certainty → ℕ → List BlockDecoding → Type 0
+abbrev Means : GroupSync → Certainty → ℕ → List (Option ℕ) → Type 0
 Means s k block ds = lines_of_all s k block ds ≡ open_lines s.place k block (outcomes s ds) ++ lines_from block (is_sure k) (outcomes s ds)
 
 none_open : (t : Bool) (rest : List ℕ) → pick t [] [] ++ rest ≡ rest
 none_open true rest = refl
 none_open false rest = refl
 
-pub due_is : (place : Place) → start_due_at place ≡ eqb (due_of place) 0
-due_is NotKnown = refl
-due_is (Known p) = refl
+pub due_is : (place : Option ℕ) → start_due_at place ≡ eqb (due_of place) 0
+due_is None = refl
+due_is (Some p) = refl
 
 -- behind a place that is not the first, no group has just begun
 pub not_started : (p : ℕ) → 0 < p → eqb (later_place p) 1 ≡ false
@@ -110,30 +108,30 @@ open_more block n h false rest =
     ap (λ (l : List ℕ). l ++ rest) (sym (one_doubt_more block n h)) ∙ append_assoc (waiting_lines (Unsure n) block) (line block 0 ∷ []) rest
 
 -- a packet that is given at the place that is known
-follow : (k : Certainty) (place : Place) (p block : ℕ) (os : List Outcome) → 0 < p → waiting_of k ≤ block
-    → open_lines (Known (later_place p)) (and_one_more k) (block + 1) os ++ lines_from (block + 1) (is_sure (and_one_more k)) os
+follow : (k : Certainty) (place : Option ℕ) (p block : ℕ) (os : List Outcome) → 0 < p → waiting_of k ≤ block
+    → open_lines (Some (later_place p)) (and_one_more k) (block + 1) os ++ lines_from (block + 1) (is_sure (and_one_more k)) os
     ≡ open_lines place k block (Delivered p ∷ os) ++ lines_from block (is_sure k) (Delivered p ∷ os)
 follow Sure place p block os h m = simp (ne_eqb p 0 (λ e. omega arith)) refl
 follow (Unsure n) place p block os h m = simp (ne_eqb p 0 (λ e. omega arith)) (open_more block n m (confirmed (later_place p) os) (lines_from (block + 1) false os))
 
-pub more_fits : (k : Certainty) (p block : ℕ) → 0 < p → p ≤ 7 → Fits k (Known p) block → Fits (and_one_more k) (Known (later_place p)) (block + 1)
+pub more_fits : (k : Certainty) (p block : ℕ) → 0 < p → p ≤ 7 → Fits k (Some p) block → Fits (and_one_more k) (Some (later_place p)) (block + 1)
 more_fits Sure p block h m f = record { by_place = omega arith; by_block = omega arith }
 more_fits (Unsure n) p block h m f = record { by_place = by (dec_lt p 7); by_block = let b = f.by_block in omega arith }
   where
     few : n ≤ (p % 8 + 7) % 8
     few = f.by_place
 
-    by : Dec (p < 7) → n + 1 ≤ most_waiting (Known (later_place p))
+    by : Dec (p < 7) → n + 1 ≤ most_waiting (Some (later_place p))
     by (yes l) = simp (lt-ltb p 7 l) (omega (arith, few))
     by (no l) = simp (le-ltb p 7 (omega arith)) (omega (arith, few))
 
-pub place_small : (s : GroupSync) (p : ℕ) → s.place ≡ Known p → sync_in_range s ≡ true → p ≤ 7
+pub place_small : (s : GroupSync) (p : ℕ) → s.place ≡ Some p → sync_in_range s ≡ true → p ≤ 7
 place_small s p e r =
-    let t : place_in_range (Known p) s.missed ≡ true = subst (λ (x : Place). place_in_range x s.missed ≡ true) e r in
+    let t : place_in_range (Some p) s.missed ≡ true = subst (λ (x : Option ℕ). place_in_range x s.missed ≡ true) e r in
     let l = ltb-true p 8 (both_true _ _ t).0 in
     omega arith
 
-module _ (s : GroupSync) (k : Certainty) (block : ℕ) (ds : List BlockDecoding) (f : Fits k s.place block) (r : sync_in_range s ≡ true)
+module _ (s : GroupSync) (k : Certainty) (block : ℕ) (ds : List (Option ℕ)) (f : Fits k s.place block) (r : sync_in_range s ≡ true)
     (ih : (x : GroupSync) (m : Certainty) → Fits m x.place (block + 1) → sync_in_range x ≡ true → Means x m (block + 1) ds) where
   abbrev Step : GroupStep → Type 0
   Step g =
@@ -162,31 +160,31 @@ module _ (s : GroupSync) (k : Certainty) (block : ℕ) (ds : List BlockDecoding)
   passed_step Waiting x h l = passed_lines 10 x l
   passed_step OutOfStep x h l = passed_lines 11 x l
 
-  start_step : Step (step (Delivered 0) (Known 1) 0)
+  start_step : Step (step (Delivered 0) (Some 1) 0)
   start_step =
-      let x : GroupSync = record { place = Known 1; missed = 0 } in
+      let x : GroupSync = record { place = Some 1; missed = 0 } in
       ap₂ (λ (t : Bool) (w : List ℕ). pick t [] (waiting_lines k block) ++ w) (due_is s.place) (none_waits x Sure refl refl)
 
-  follow_step : (p : ℕ) → s.place ≡ Known p → 0 < p → sync_in_range (record { place = Known (later_place p); missed = 0 }) ≡ true → Step (step (Delivered p) (Known (later_place p)) 0)
+  follow_step : (p : ℕ) → s.place ≡ Some p → 0 < p → sync_in_range (record { place = Some (later_place p); missed = 0 }) ≡ true → Step (step (Delivered p) (Some (later_place p)) 0)
   follow_step p e h l =
-      let x : GroupSync = record { place = Known (later_place p); missed = 0 } in
-      let m : Fits k (Known p) block = subst (λ (q : Place). Fits k q block) e f in
+      let x : GroupSync = record { place = Some (later_place p); missed = 0 } in
+      let m : Fits k (Some p) block = subst (λ (q : Option ℕ). Fits k q block) e f in
       ap (λ (t : Bool). pick t (pick (start_due_at s.place) [] (waiting_lines k block)) [] ++ lines_of_all x (pick t Sure (and_one_more k)) (block + 1) ds) (not_started p h)
       ∙ ih x (and_one_more k) (more_fits k p block h (place_small s p e r) m) l
       ∙ follow k s.place p block (outcomes x ds) h m.by_block
 
-  from_step : (d : BlockDecoding) (g : GroupStep) → sync_in_range g.sync ≡ true → Stepped s.place d g → Step g
+  from_step : (d : Option ℕ) (g : GroupStep) → sync_in_range g.sync ≡ true → Stepped s.place d g → Step g
   from_step d g l (passed o x h) = passed_step o x h l
   from_step d g l (starts e) = start_step
   from_step d g l (follows p e q h) = follow_step p q h l
 
-pub lines_mean : (ds : List BlockDecoding) (s : GroupSync) (k : Certainty) (block : ℕ) → Fits k s.place block → sync_in_range s ≡ true → Means s k block ds
+pub lines_mean : (ds : List (Option ℕ)) (s : GroupSync) (k : Certainty) (block : ℕ) → Fits k s.place block → sync_in_range s ≡ true → Means s k block ds
 lines_mean [] s k block f r = sym (append-nil (waiting_lines k block))
 lines_mean (d ∷ ds) s k block f r =
     from_step s k block ds f r (λ x m. lines_mean ds x m (block + 1)) d (group_step s d) (sync_in_range_lem s d r) (stepped s d)
 
 -- from a state in which nothing waits
-pub lines_listed : (ds : List BlockDecoding) (s : GroupSync) (block : ℕ) → sync_in_range s ≡ true → lines_of_all s (Unsure 0) block ds ≡ lines_from block false (outcomes s ds)
+pub lines_listed : (ds : List (Option ℕ)) (s : GroupSync) (block : ℕ) → sync_in_range s ≡ true → lines_of_all s (Unsure 0) block ds ≡ lines_from block false (outcomes s ds)
 lines_listed ds s block r =
     lines_mean ds s (Unsure 0) block (record { by_place = omega arith; by_block = omega arith }) r
     ∙ none_open (confirmed (due_of s.place) (outcomes s ds)) (lines_from block false (outcomes s ds))

@@ -78,7 +78,8 @@ module _ {bytes marks output exit : List ℕ} {count : ℕ} {next : LossStream} 
   rest-length : length (mid_of count (length exit - count) exit) ≡ length exit - count
   rest-length = length-take-le (length exit - count) (drop count exit) (omega (arith, length-drop count exit))
 
-  close_number : loss_close_number next (mid_of count (length exit - count) exit) ≡ 0
+  -- there is room for what is left
+  pub close_number : loss_close_number next (mid_of count (length exit - count) exit) ≡ 0
   close_number =
       let e = left_count l in
       let h : waiting_of next.certainty ≤ length (mid_of count (length exit - count) exit) = omega (arith, rest-length, l.room, e.1) in
@@ -91,9 +92,3 @@ module _ {bytes marks output exit : List ℕ} {count : ℕ} {next : LossStream} 
       let m : n ≤ length (mid_of count (length exit - count) exit) = omega (arith, v.counted, length_doubts (next.receiver.counts.taken - 11 - waiting_of next.certainty) (waiting_of next.certainty), rest-length, l.room, k.1) in
       listed l.tests refl (l.lines ++ end_lines next) (came_listed l.came)
       (writes_part (omega (arith, l.room)) l.writes v (writes_length v m ∙ rest-length))
-
-  pub run_count_lem : {n : ℕ} {exit' : List ℕ} → WritesLines (close_lines next (mid_of count (length exit - count) exit)) (mid_of count (length exit - count) exit) n exit' → count + n ≤ length output
-  run_count_lem {n} {exit'} w =
-      let k = left_count l in
-      let v : WritesLines (end_lines next) (mid_of count (length exit - count) exit) n exit' = subst (λ (z : ℕ). WritesLines (pick (eqb z 0) (end_lines next) []) (mid_of count (length exit - count) exit) n exit') close_number w in
-      omega (arith, v.counted, length_doubts (next.receiver.counts.taken - 11 - waiting_of next.certainty) (waiting_of next.certainty), l.room)

@@ -11,14 +11,14 @@ use native.Mathlib.Omega.{arith}
 use lib.Dec.{eqb}
 use lib.ListN.{length, get_or, take, drop, replicate, length-drop, length-replicate, replicate-append-replicate}
 use lib.Seq.{get_or-drop, get_or-take, drop_at, drop-drop}
+use Rattle.std.proofs.Common.{Option, Some, None, Ok, Err}
 use Rattle.common.specs.Lists.{All, Length, largest, chunks, chunks_of}
 use Rattle.common.proofs.Largest.{largest_zeros}
-use Rattle.answer.specs.Number.{number_of}
-use Rattle.reed_solomon.specs.Decode.{Decodes, decoded_number}
+use Rattle.answer.specs.Number.{answered}
+use Rattle.answer.specs.declared.Refusal.TheVariants.{Uncorrectable, BlockLength}
+use Rattle.reed_solomon.specs.Decode.{Decoded, Decodes}
 use Rattle.reed_solomon.specs.Encode.{encoded}
 use Rattle.reed_solomon.specs.Marks.{no_marks}
-use Rattle.reed_solomon.specs.declared.Decoded.{Decoded}
-use Rattle.reed_solomon.specs.declared.Decoded.TheVariants.{Corrected, Uncorrectable, BlockLength, MarkValue}
 use Rattle.reed_solomon.proofs.Distance.{differ_none}
 use Rattle.reed_solomon.proofs.LongDivision.{encoded_codeword, encoded_length}
 use Rattle.reed_solomon.proofs.Laws.{decodes_near, unique}
@@ -33,8 +33,6 @@ use Rattle.interleaver.proofs.BlockLists.{flatten_at, All-drop}
 use Rattle.interleaver.proofs.Gathering.{length_gathered, gathered_same}
 use Rattle.group_sync.specs.Group.{fresh_sync, sync_in_range, group_step}
 use Rattle.group_sync.specs.Stream.{outcomes}
-use Rattle.group_sync.specs.declared.BlockDecoding.{BlockDecoding}
-use Rattle.group_sync.specs.declared.BlockDecoding.TheVariants as decoding
 use Rattle.group_sync.specs.declared.Outcome.{Outcome}
 use Rattle.group_sync.specs.declared.Outcome.TheVariants.{Delivered, Lost}
 use Rattle.group_sync.specs.declared.GroupSync.{GroupSync}
@@ -50,7 +48,6 @@ use Rattle.receiver.proofs.Decoding.{sent_length, sent_bytes_lem, plain_decodes}
 use Rattle.receiver.proofs.Outcomes.{Unrefused, next_unrefused, branches_after_lem, unmarked_after}
 use Rattle.receiver.proofs.Reception.{came_gathered, coded_gathered, blocks_count, begun_anywhere}
 use Rattle.recording.specs.Block.{block_count, block_refusal, GivesBlock, block_refused, block_decoded}
-use Rattle.recording.specs.declared.block.DecodedBlock.{DecodedBlock}
 use Rattle.losses.specs.History.{blocks_of, LossList}
 use Rattle.losses.specs.Promise.{answer_at, Stretches, WrongTold, LeftOut, start_lines}
 use Rattle.losses.proofs.Histories.{all_back, calls_count, calls_unrefused}
@@ -93,12 +90,12 @@ module _ {bytes lines : List ℕ} (l : LossList bytes (unmarked bytes) lines) wh
 -- ---- what each call decodes
 
 decoded_each : (cs : List Call) (s : Receiver) → Unrefused s cs → NoMarks s → All Plain cs → (i : ℕ) → i < length cs
-    → Decodes (get_or (run Receiving s.deinterleaver.branches (lent_blocks cs)) i []) (get_or (lefts cs) i []) (get_or (map (λ c. c.decoded) cs) i Uncorrectable)
+    → Decodes (get_or (run Receiving s.deinterleaver.branches (lent_blocks cs)) i []) (get_or (lefts cs) i []) (get_or (map (λ c. c.decoded) cs) i (Err Uncorrectable))
 unfolding run
 decoded_each [] s u z pl i h = absurd (not-suc-le-zero h)
 decoded_each (c ∷ cs) s u z pl zero h = plain_decodes s c cs u z pl.0
 decoded_each (c ∷ cs) s u z pl (suc i) h =
-    subst (λ (b : Branches). Decodes (get_or (run Receiving b (lent_blocks cs)) i []) (get_or (lefts cs) i []) (get_or (map (λ d. d.decoded) cs) i Uncorrectable)) (branches_after_lem s c cs u)
+    subst (λ (b : Branches). Decodes (get_or (run Receiving b (lent_blocks cs)) i []) (get_or (lefts cs) i []) (get_or (map (λ d. d.decoded) cs) i (Err Uncorrectable))) (branches_after_lem s c cs u)
     (decoded_each cs (after_call s c) (next_unrefused s c cs u) (unmarked_after s c cs u z pl.0) pl.1 i (omega arith))
 
 get_d_behind : {A B : Type 0} (f : A → B) (cs : List A) (n i : ℕ) (d : B) → get_or (map f (drop n cs)) i d ≡ get_or (map f cs) (n + i) d
@@ -108,7 +105,7 @@ get_d_behind f (c ∷ cs) (suc n) i d = let e : suc (n + i) ≡ suc n + i = omeg
 
 module _ (cs : List Call) (u : Unrefused fresh_receiver cs) (pl : All Plain cs) (block : ℕ) (h : block + 11 < length cs) where
   abbrev decoded_at : Decoded
-  decoded_at = get_or (map (λ c. c.decoded) (drop 11 cs)) block Uncorrectable
+  decoded_at = get_or (map (λ c. c.decoded) (drop 11 cs)) block (Err Uncorrectable)
 
   block_decodes : Decodes (gathered (flatten (lent_blocks cs)) block) (get_or (lefts (drop 11 cs)) block []) decoded_at
   unfolding fresh_receiver
@@ -117,7 +114,7 @@ module _ (cs : List Call) (u : Unrefused fresh_receiver cs) (pl : All Plain cs) 
       let f : get_or (run Receiving fresh (lent_blocks cs)) (11 + block) [] ≡ gathered (flatten (lent_blocks cs)) block
       = sym (get_or-drop 11 (run Receiving fresh (lent_blocks cs)) block []) ∙ came_gathered cs u.sizes block h in
       subst (λ (x : List ℕ). Decodes x (get_or (lefts (drop 11 cs)) block []) decoded_at) f
-      (subst₂ (λ (x : List ℕ) (y : Decoded). Decodes (get_or (run Receiving fresh (lent_blocks cs)) (11 + block) []) x y) (sym (get_d_behind (λ c. c.left) cs 11 block [])) (sym (get_d_behind (λ c. c.decoded) cs 11 block Uncorrectable))
+      (subst₂ (λ (x : List ℕ) (y : Decoded). Decodes (get_or (run Receiving fresh (lent_blocks cs)) (11 + block) []) x y) (sym (get_d_behind (λ c. c.left) cs 11 block [])) (sym (get_d_behind (λ c. c.decoded) cs 11 block (Err Uncorrectable)))
       (decoded_each cs fresh_receiver u refl pl (11 + block) e))
 
 -- ---- blocks left out or doubled
@@ -157,9 +154,9 @@ module _ {bytes lines : List ℕ} (l : LossList bytes (unmarked bytes) lines) (p
         let w = own packets ws n b in
         let x = randomized (n % 8) p in
         let e : gathered (flatten (lent_blocks l.calls)) block ≡ encoded x = block_sent ∙ coded_own packets ws n b in
-        (decodes_near (encoded x) (encoded x) (get_or (lefts (drop 11 l.calls)) block []) (get_or (map (λ d. d.decoded) (drop 11 l.calls)) block Uncorrectable)
+        (decodes_near (encoded x) (encoded x) (get_or (lefts (drop 11 l.calls)) block []) (get_or (map (λ d. d.decoded) (drop 11 l.calls)) block (Err Uncorrectable))
         (encoded_length x (sent_length n p w) (sent_bytes_lem n p w)) (encoded_codeword x (sent_length n p w) (sent_bytes_lem n p w)) (omega (arith, differ_none (encoded x)))
-        (subst (λ (y : List ℕ). Decodes y (get_or (lefts (drop 11 l.calls)) block []) (get_or (map (λ d. d.decoded) (drop 11 l.calls)) block Uncorrectable)) e
+        (subst (λ (y : List ℕ). Decodes y (get_or (lefts (drop 11 l.calls)) block []) (get_or (map (λ d. d.decoded) (drop 11 l.calls)) block (Err Uncorrectable))) e
         (block_decodes l.calls (unrefused l) (plain l) block h))).block
         ∙ sym (coded_own packets ws n b)
 
@@ -216,29 +213,29 @@ chunk_at (suc n) l (suc b) h =
     let e : 204 + 204 * b ≡ 204 * suc b = omega arith in
     chunk_at n (drop 204 l) b (omega arith) ∙ ap (take 204) (drop-drop (204 * b) 204 l ∙ ap (λ (k : ℕ). drop k l) e)
 
-was_lost : BlockDecoding → Bool
-was_lost decoding.Lost = true
-was_lost (decoding.Accepted first) = false
+was_lost : Option ℕ → Bool
+was_lost None = true
+was_lost (Some first) = false
 
 -- a block is answered 8 exactly where no codeword is near enough
-lost_step : (s : GroupSync) (d : BlockDecoding) → sync_in_range s ≡ true → eqb (outcome_number (group_step s d).outcome) 8 ≡ was_lost d
+lost_step : (s : GroupSync) (d : Option ℕ) → sync_in_range s ≡ true → eqb (outcome_number (group_step s d).outcome) 8 ≡ was_lost d
 unfolding was_lost
-lost_step s decoding.Lost r = refl
-lost_step s (decoding.Accepted first) r = accepted_outcome (λ o. eqb (outcome_number o) 8 ≡ false) s first (λ p h. refl) refl refl r
+lost_step s None r = refl
+lost_step s (Some first) r = accepted_outcome (λ o. eqb (outcome_number o) 8 ≡ false) s first (λ p h. refl) refl refl r
 
 lost_at : (cs : List Call) (s : GroupSync) → sync_in_range s ≡ true → (i : ℕ) → i < length cs
-    → eqb (outcome_number (get_or (outcomes s (decodings cs)) i Lost)) 8 ≡ was_lost (decoding_of (get_or (map (λ c. c.decoded) cs) i Uncorrectable) (get_or (get_or (lefts cs) i []) 0 0))
+    → eqb (outcome_number (get_or (outcomes s (decodings cs)) i Lost)) 8 ≡ was_lost (decoding_of (get_or (map (λ c. c.decoded) cs) i (Err Uncorrectable)) (get_or (get_or (lefts cs) i []) 0 0))
 lost_at [] s r i h = absurd (not-suc-le-zero h)
 lost_at (c ∷ cs) s r zero h = lost_step s (decoding_of c.decoded (get_or c.left 0 0)) r
 lost_at (c ∷ cs) s r (suc i) h =
     lost_at cs (group_step s (decoding_of c.decoded (get_or c.left 0 0))).sync (sync_in_range_lem s (decoding_of c.decoded (get_or c.left 0 0)) r) i (omega arith)
 
-decoded_lost : (came left : List ℕ) (decoded : Decoded) (first : ℕ) → length came ≡ 204 → Decodes came left decoded → eqb (decoded_number decoded) 8 ≡ was_lost (decoding_of decoded first)
+decoded_lost : (came left : List ℕ) (decoded : Decoded) (first : ℕ) → length came ≡ 204 → Decodes came left decoded → eqb (answered decoded) 8 ≡ was_lost (decoding_of decoded first)
 unfolding was_lost
-decoded_lost came left (Corrected changed) first n d = refl
-decoded_lost came left Uncorrectable first n d = refl
-decoded_lost came left BlockLength first n d = absurd (d.0 n)
-decoded_lost came left MarkValue first n d = absurd d
+decoded_lost came left (Ok changed) first n d = refl
+decoded_lost came left (Err Uncorrectable) first n d = refl
+decoded_lost came left (Err BlockLength) first n d = absurd (d.0 n)
+decoded_lost came left (Err _) first n d = absurd d
 
 module _ {bytes lines : List ℕ} (l : LossList bytes (unmarked bytes) lines) where
   blocks_bytes : (block : ℕ) → block + 12 ≤ length bytes / 204 → gathered bytes block ≡ gathered (flatten (lent_blocks l.calls)) block
@@ -255,18 +252,18 @@ module _ {bytes lines : List ℕ} (l : LossList bytes (unmarked bytes) lines) wh
           ∙ get_or-take 204 (drop (204 * b) bytes) n 0 k ∙ get_or-drop (204 * b) bytes n 0)
 
   -- block K of the recording is answered 8 exactly where its line says so
-  pub as_recorded : (block : ℕ) (output exit : List ℕ) (r : DecodedBlock) → block + 12 ≤ length bytes / 204 → block_refusal bytes (block_count bytes) block output ≡ 0
-      → GivesBlock bytes (block_count bytes) block output r exit → eqb (number_of r.answer) 8 ≡ eqb (answer_at l.calls block) 8
+  pub as_recorded : (block : ℕ) (output exit : List ℕ) (r : Decoded) → block + 12 ≤ length bytes / 204 → block_refusal bytes (block_count bytes) block output ≡ 0
+      → GivesBlock bytes (block_count bytes) block output r exit → eqb (answered r) 8 ≡ eqb (answer_at l.calls block) 8
   as_recorded block output exit r h e (block_refused s n c w) = absurd (omega arith)
-  as_recorded block output exit r h e (block_decoded left decoded f g m c w) =
+  as_recorded block output exit r h e (block_decoded left f g w) =
       let cs = l.calls in
       let n = calls_count l.on (none_marked l) l.few in
       let k : block + 11 < length cs = omega (arith, n) in
       let d = block_decodes cs (unrefused l) (plain l) block k in
-      let q = unique (gathered bytes block) left (get_or (lefts (drop 11 cs)) block []) decoded (get_or (map (λ c. c.decoded) (drop 11 cs)) block Uncorrectable) g
-      (subst (λ (x : List ℕ). Decodes x (get_or (lefts (drop 11 cs)) block []) (get_or (map (λ c. c.decoded) (drop 11 cs)) block Uncorrectable)) (sym (blocks_bytes block h)) d) in
-      let a : number_of r.answer ≡ decoded_number (get_or (map (λ c. c.decoded) (drop 11 cs)) block Uncorrectable) = m ∙ ap decoded_number q.answer in
+      let q = unique (gathered bytes block) left (get_or (lefts (drop 11 cs)) block []) r (get_or (map (λ c. c.decoded) (drop 11 cs)) block (Err Uncorrectable)) g
+      (subst (λ (x : List ℕ). Decodes x (get_or (lefts (drop 11 cs)) block []) (get_or (map (λ c. c.decoded) (drop 11 cs)) block (Err Uncorrectable))) (sym (blocks_bytes block h)) d) in
+      let a : answered r ≡ answered (get_or (map (λ c. c.decoded) (drop 11 cs)) block (Err Uncorrectable)) = ap answered q.answer in
       ap (λ (i : ℕ). eqb i 8) a
-      ∙ decoded_lost (gathered (flatten (lent_blocks cs)) block) (get_or (lefts (drop 11 cs)) block []) (get_or (map (λ c. c.decoded) (drop 11 cs)) block Uncorrectable) (get_or (get_or (lefts (drop 11 cs)) block []) 0 0)
+      ∙ decoded_lost (gathered (flatten (lent_blocks cs)) block) (get_or (lefts (drop 11 cs)) block []) (get_or (map (λ c. c.decoded) (drop 11 cs)) block (Err Uncorrectable)) (get_or (get_or (lefts (drop 11 cs)) block []) 0 0)
       (length_gathered (flatten (lent_blocks cs)) block) d
       ∙ sym (ap (λ (i : ℕ). eqb i 8) (answer_is cs (unrefused l) block (omega (arith, k))) ∙ lost_at (drop 11 cs) fresh_sync refl block (omega (arith, length-drop 11 cs)))

@@ -10,12 +10,12 @@ use native.Mathlib.Omega.{arith}
 use lib.Dec.{eqb}
 use lib.ListN.{length, get_or, take, drop, replicate, length-drop, length-map, length-replicate}
 use lib.Seq.{take_all, get_or-append-add}
+use Rattle.std.proofs.Common.{Option}
 use Rattle.common.specs.Choice.{pick}
 use Rattle.common.specs.Lists.{largest}
 use Rattle.common.proofs.Lists.{get_d_map_in}
 use Rattle.group_sync.specs.Group.{later_place, fresh_sync, group_step}
 use Rattle.group_sync.specs.Stream.{outcomes}
-use Rattle.group_sync.specs.declared.BlockDecoding.{BlockDecoding}
 use Rattle.group_sync.specs.declared.Outcome.{Outcome}
 use Rattle.group_sync.specs.declared.Outcome.TheVariants.{Filling, Delivered, Lost, Waiting, OutOfStep}
 use Rattle.group_sync.specs.declared.GroupSync.{GroupSync}
@@ -101,7 +101,7 @@ every_line (o ∷ os) block sure l h =
 
 -- ---- by the calls
 
-outcomes_count : (ds : List BlockDecoding) (s : GroupSync) → length (outcomes s ds) ≡ length ds
+outcomes_count : (ds : List (Option ℕ)) (s : GroupSync) → length (outcomes s ds) ≡ length ds
 outcomes_count [] s = refl
 outcomes_count (d ∷ ds) s = ap suc (outcomes_count ds (group_step s d).sync)
 

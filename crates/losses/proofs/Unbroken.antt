@@ -10,14 +10,11 @@ use borrow.Author.Tests.{ne_eqb}
 use lib.Dec.{eqb}
 use lib.ListN.{length, get_or, take, drop, replicate, length-replicate}
 use lib.Seq.{take_all, take-append-add}
+use Rattle.std.proofs.Common.{Option, Some, None}
 use Rattle.common.specs.Choice.{pick}
 use Rattle.common.specs.Lists.{largest}
 use Rattle.group_sync.specs.Group.{fresh_sync, group_step}
 use Rattle.group_sync.specs.Stream.{outcomes, before_group}
-use Rattle.group_sync.specs.declared.Place.{Place}
-use Rattle.group_sync.specs.declared.Place.TheVariants.{NotKnown, Known}
-use Rattle.group_sync.specs.declared.BlockDecoding.{BlockDecoding}
-use Rattle.group_sync.specs.declared.BlockDecoding.TheVariants as decoding
 use Rattle.group_sync.specs.declared.Outcome.{Outcome}
 use Rattle.group_sync.specs.declared.Outcome.TheVariants.{Filling, Delivered, Lost, Waiting, OutOfStep}
 use Rattle.group_sync.specs.declared.GroupSync.{GroupSync}
@@ -55,28 +52,28 @@ sure_lines (o ∷ os) block (suc n) (suc k) e = head o (ap (λ (l : List ℕ). g
 
 -- from a place that is not known a block is waited over, and the place stays so, or it begins a group
 data Searched : GroupStep → Type 0 where
-  waits : (x : GroupSync) → x.place ≡ NotKnown → Searched (record { outcome = Waiting; sync = x })
+  waits : (x : GroupSync) → x.place ≡ None → Searched (record { outcome = Waiting; sync = x })
   begins : (x : GroupSync) → Searched (record { outcome = Delivered 0; sync = x })
   lost : (x : GroupSync) → Searched (record { outcome = Lost; sync = x })
 
-searched : (missed : ℕ) (d : BlockDecoding) → Searched (group_step (record { place = NotKnown; missed = missed }) d)
-searched missed decoding.Lost = lost (record { place = NotKnown; missed = missed })
-searched missed (decoding.Accepted first) = by (ℕ_discrete first 0xB8) (ℕ_discrete first 0x47)
+searched : (missed : ℕ) (d : Option ℕ) → Searched (group_step (record { place = None; missed = missed }) d)
+searched missed None = lost (record { place = None; missed = missed })
+searched missed (Some first) = by (ℕ_discrete first 0xB8) (ℕ_discrete first 0x47)
   where
-    by : Dec (first ≡ 0xB8) → Dec (first ≡ 0x47) → Searched (group_step (record { place = NotKnown; missed = missed }) (decoding.Accepted first))
-    by (yes b) other = rw b (begins (record { place = Known 1; missed = 0 }))
-    by (no b) (yes s) = rw s (waits (record { place = NotKnown; missed = 0 }) refl)
-    by (no b) (no s) = simp (ne_eqb first 0xB8 b, ne_eqb first 0x47 s) (waits (record { place = NotKnown; missed = 0 }) refl)
+    by : Dec (first ≡ 0xB8) → Dec (first ≡ 0x47) → Searched (group_step (record { place = None; missed = missed }) (Some first))
+    by (yes b) other = rw b (begins (record { place = Some 1; missed = 0 }))
+    by (no b) (yes s) = rw s (waits (record { place = None; missed = 0 }) refl)
+    by (no b) (no s) = simp (ne_eqb first 0xB8 b, ne_eqb first 0x47 s) (waits (record { place = None; missed = 0 }) refl)
 
-module _ (ds : List BlockDecoding) (block n w k : ℕ) where
+module _ (ds : List (Option ℕ)) (block n w k : ℕ) where
   abbrev Waited : GroupStep → Type 0
   Waited g = lines_from block false (g.outcome ∷ outcomes g.sync ds) ≡ take n (wait_lines block w)
 
   abbrev Numbers : GroupStep → Type 0
   Numbers g = map outcome_number (g.outcome ∷ outcomes g.sync ds) ≡ take n (replicate w 10 ++ replicate k 0)
 
-waited_step : (ds : List BlockDecoding) (block n w k : ℕ) (g : GroupStep) → Searched g
-    → ((x : GroupSync) (n w : ℕ) → x.place ≡ NotKnown → map outcome_number (outcomes x ds) ≡ take n (replicate w 10 ++ replicate k 0) → lines_from (block + 1) false (outcomes x ds) ≡ take n (wait_lines (block + 1) w))
+waited_step : (ds : List (Option ℕ)) (block n w k : ℕ) (g : GroupStep) → Searched g
+    → ((x : GroupSync) (n w : ℕ) → x.place ≡ None → map outcome_number (outcomes x ds) ≡ take n (replicate w 10 ++ replicate k 0) → lines_from (block + 1) false (outcomes x ds) ≡ take n (wait_lines (block + 1) w))
     → Numbers ds block n w k g → Waited ds block n w k g
 waited_step ds block zero w k g s r e = absurd (omega (arith, ap length e))
 waited_step ds block (suc n) zero zero g s r e = absurd (omega (arith, ap length e))
@@ -92,11 +89,11 @@ no_blocks block zero w k e = refl
 no_blocks block (suc n) zero k e = refl
 no_blocks block (suc n) (suc w) k e = absurd (omega (arith, ap length e))
 
-waited_lines : (ds : List BlockDecoding) (s : GroupSync) (block n w k : ℕ) → s.place ≡ NotKnown → map outcome_number (outcomes s ds) ≡ take n (replicate w 10 ++ replicate k 0)
+waited_lines : (ds : List (Option ℕ)) (s : GroupSync) (block n w k : ℕ) → s.place ≡ None → map outcome_number (outcomes s ds) ≡ take n (replicate w 10 ++ replicate k 0)
     → lines_from block false (outcomes s ds) ≡ take n (wait_lines block w)
 waited_lines [] s block n w k p e = no_blocks block n w k e
 waited_lines (d ∷ ds) s block n w k p e =
-    waited_step ds block n w k (group_step s d) (subst (λ (x : Place). Searched (group_step (record { place = x; missed = s.missed }) d)) (sym p) (searched s.missed d))
+    waited_step ds block n w k (group_step s d) (subst (λ (x : Option ℕ). Searched (group_step (record { place = x; missed = s.missed }) d)) (sym p) (searched s.missed d))
     (λ x i j q. waited_lines ds x (block + 1) i j k q) e
 
 -- ---- the theorem

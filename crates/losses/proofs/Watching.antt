@@ -10,11 +10,9 @@ use native.Mathlib.Omega.{arith}
 use borrow.Author.Tests.{ne_eqb, lt-ltb, le-ltb}
 use lib.Dec.{eqb, ltb}
 use lib.ListN.{length, get_or, length-append}
+use Rattle.std.proofs.Common.{Option, Some}
 use Rattle.common.specs.Choice.{pick}
 use Rattle.group_sync.specs.Group.{later_place, sync_in_range, group_step}
-use Rattle.group_sync.specs.declared.Place.{Place}
-use Rattle.group_sync.specs.declared.Place.TheVariants.{Known}
-use Rattle.group_sync.specs.declared.BlockDecoding.{BlockDecoding}
 use Rattle.group_sync.specs.declared.Outcome.TheVariants.{Filling, Delivered, Lost, Waiting, OutOfStep}
 use Rattle.group_sync.specs.declared.GroupSync.{GroupSync}
 use Rattle.group_sync.specs.declared.GroupStep.{GroupStep}
@@ -33,7 +31,7 @@ use Rattle.losses.proofs.Lines.{Fits, length_doubts, not_started, more_fits, pla
 use Rattle.losses.proofs.Steps.{Stepped, passed, starts, follows, stepped}
 use Rattle.losses.proofs.Decisions.{range_fits, fits_range}
 
-range_none : (k : Certainty) (place : Place) (taken : ℕ) → waiting_of k ≡ 0 → certainty_in_range k place taken ≡ true
+range_none : (k : Certainty) (place : Option ℕ) (taken : ℕ) → waiting_of k ≡ 0 → certainty_in_range k place taken ≡ true
 range_none k place taken z = fits_range k place taken (omega arith) (omega arith)
 
 -- ---- after a block that is taken
@@ -42,31 +40,31 @@ module _ (s : GroupSync) (k : Certainty) (taken : ℕ) (full : 11 ≤ taken) (r 
   abbrev Kept : GroupStep → Type 0
   Kept g = certainty_in_range (certainty_next k (outcome_number g.outcome) (started_at g.sync.place)) g.sync.place (taken + 1) ≡ true
 
-  follows_range : (p : ℕ) → s.place ≡ Known p → 0 < p → certainty_in_range (and_one_more k) (Known (later_place p)) (taken + 1) ≡ true
+  follows_range : (p : ℕ) → s.place ≡ Some p → 0 < p → certainty_in_range (and_one_more k) (Some (later_place p)) (taken + 1) ≡ true
   follows_range p e h =
       let w = range_fits k s.place taken f in
-      let m : Fits k (Known p) (taken - 11) = subst (λ (q : Place). Fits k q (taken - 11)) e (record { by_place = w.0; by_block = w.1 }) in
+      let m : Fits k (Some p) (taken - 11) = subst (λ (q : Option ℕ). Fits k q (taken - 11)) e (record { by_place = w.0; by_block = w.1 }) in
       let n = more_fits k p (taken - 11) h (place_small s p e r) m in
-      fits_range (and_one_more k) (Known (later_place p)) (taken + 1) n.by_place (omega (arith, n.by_block))
+      fits_range (and_one_more k) (Some (later_place p)) (taken + 1) n.by_place (omega (arith, n.by_block))
 
-  step_range : (d : BlockDecoding) (g : GroupStep) → Stepped s.place d g → Kept g
+  step_range : (d : Option ℕ) (g : GroupStep) → Stepped s.place d g → Kept g
   step_range d g (passed Filling x h) = absurd h
   step_range d g (passed (Delivered place) x h) = absurd h
   step_range d g (passed Lost x h) = range_none (Unsure 0) x.place (taken + 1) refl
   step_range d g (passed Waiting x h) = range_none (Unsure 0) x.place (taken + 1) refl
   step_range d g (passed OutOfStep x h) = range_none (Unsure 0) x.place (taken + 1) refl
-  step_range d g (starts e) = range_none Sure (Known 1) (taken + 1) refl
+  step_range d g (starts e) = range_none Sure (Some 1) (taken + 1) refl
   step_range d g (follows p e q h) =
-      subst (λ (t : Bool). certainty_in_range (pick t Sure (and_one_more k)) (Known (later_place p)) (taken + 1) ≡ true) (sym (not_started p h)) (follows_range p q h)
+      subst (λ (t : Bool). certainty_in_range (pick t Sure (and_one_more k)) (Some (later_place p)) (taken + 1) ≡ true) (sym (not_started p h)) (follows_range p q h)
 
 -- ---- after any call
 
 module _ (s : Receiver) (k : Certainty) (c : Call) (w : Watched s k) where
   -- while the delays fill, the place is untouched
-  filling_range : s.counts.taken < 11 → (place : Place) (taken : ℕ) → place ≡ s.sync.place → s.counts.taken ≤ taken → certainty_in_range k place taken ≡ true
+  filling_range : s.counts.taken < 11 → (place : Option ℕ) (taken : ℕ) → place ≡ s.sync.place → s.counts.taken ≤ taken → certainty_in_range k place taken ≡ true
   filling_range h place taken e l =
       let f = range_fits k s.sync.place s.counts.taken w.range in
-      let m : waiting_of k ≤ most_waiting place = subst (λ (q : Place). waiting_of k ≤ most_waiting q) (sym e) f.0 in
+      let m : waiting_of k ≤ most_waiting place = subst (λ (q : Option ℕ). waiting_of k ≤ most_waiting q) (sym e) f.0 in
       fits_range k place taken m (omega (arith, f.1))
 
   after_filling : s.counts.taken < 11 → certainty_after s k c ≡ k
@@ -117,8 +115,8 @@ module _ (s : Receiver) (k : Certainty) (c : Call) (w : Watched s k) where
           let f = step_range s.sync k s.counts.taken l (state_range s y.range).sync w.range d g (stepped s.sync d) in
           let m = certainty_next k (outcome_number g.outcome) (started_at g.sync.place) in
           subst (λ (x : Certainty). certainty_in_range x (after_call s c).sync.place (after_call s c).counts.taken ≡ true)
-          (sym (after_full l ∙ ap₂ (λ (i : ℕ) (q : Place). certainty_next k i (started_at q)) n p))
-          (subst₂ (λ (q : Place) (t : ℕ). certainty_in_range m q t ≡ true) (sym p) (sym taken) f)
+          (sym (after_full l ∙ ap₂ (λ (i : ℕ) (q : Option ℕ). certainty_next k i (started_at q)) n p))
+          (subst₂ (λ (q : Option ℕ) (t : ℕ). certainty_in_range m q t ≡ true) (sym p) (sym taken) f)
 
   pub watched_call : Watched (after_call s c) (certainty_after s k c)
   watched_call = by (ready_or_refused s c.block c.marks c.output)

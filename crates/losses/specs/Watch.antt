@@ -1,9 +1,7 @@
 -- The list line by line, as the blocks come: what is decided at a block, and what still waits.
 -- Assumes nothing.
-use Rattle.std.specs.Prelude.{Bool, true, false, List, [], ◌∷◌, ◌++◌, ℕ, ◌+◌, ◌-◌, ◌%◌, eqb, ltb}
+use Rattle.std.specs.Prelude.{Bool, true, false, List, [], ◌∷◌, ◌++◌, ℕ, ◌+◌, ◌-◌, ◌%◌, eqb, ltb, Option, Some, None}
 use Rattle.common.specs.Choice.{pick}
-use Rattle.group_sync.specs.declared.Place.{Place}
-use Rattle.group_sync.specs.declared.Place.TheVariants.{NotKnown, Known}
 use Rattle.receiver.specs.Run.{Call, answer_of, after_call}
 use Rattle.receiver.specs.declared.Receiver.{Receiver}
 use Rattle.losses.specs.List.{line, doubts}
@@ -21,13 +19,13 @@ is_sure Sure = true
 is_sure (Unsure n) = false
 
 -- whether B8 is due at a place, and whether it came, by the place behind it
-abbrev pub start_due_at : Place → Bool
-start_due_at NotKnown = false
-start_due_at (Known p) = eqb p 0
+abbrev pub start_due_at : Option ℕ → Bool
+start_due_at None = false
+start_due_at (Some p) = eqb p 0
 
-abbrev pub started_at : Place → Bool
-started_at NotKnown = false
-started_at (Known p) = eqb p 1
+abbrev pub started_at : Option ℕ → Bool
+started_at None = false
+started_at (Some p) = eqb p 1
 
 -- the packets that wait, in doubt: those just before a block
 abbrev pub waiting_lines : Certainty → ℕ → List ℕ
@@ -46,12 +44,12 @@ abbrev pub certainty_next : Certainty → ℕ → Bool → Certainty
 certainty_next k number started = pick (eqb number 0) (pick started Sure (and_one_more k)) (Unsure 0)
 
 -- how many packets can wait before a place: those from place 1 on, so seven before place 0, where B8 is due
-abbrev pub most_waiting : Place → ℕ
-most_waiting NotKnown = 0
-most_waiting (Known p) = (p % 8 + 7) % 8
+abbrev pub most_waiting : Option ℕ → ℕ
+most_waiting None = 0
+most_waiting (Some p) = (p % 8 + 7) % 8
 
 -- no more than can wait there, and no more than there are blocks after the eleven that fill the delays
-abbrev pub certainty_in_range : Certainty → Place → ℕ → Bool
+abbrev pub certainty_in_range : Certainty → Option ℕ → ℕ → Bool
 certainty_in_range k place taken = pick (ltb (most_waiting place) (waiting_of k)) false (pick (ltb (taken - 11) (waiting_of k)) false true)
 
 -- ---- by the receiver's calls

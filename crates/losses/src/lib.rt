@@ -4,19 +4,20 @@
 
 ghost use Rattle.std.specs.Prelude.{◌≡◌, ◌++◌, ◌⊎◌, ◌+◌, ◌-◌, ◌/◌, ◌≤◌, ◌<◌, min, length, take, drop};
 ghost use Rattle.common.specs.Choice.{pick};
-ghost use Rattle.answer.specs.Number.{number_of};
+ghost use Rattle.answer.specs.Number.{answered, given_or};
+ghost use Rattle.receiver.specs.Receive.{ReceivesMarked};
 ghost use Rattle.losses.specs.List.{line as List·line, doubts};
 ghost use Rattle.losses.specs.Watch.{waiting_of, start_due_at, started_at, lines_now, and_one_more, certainty_next, most_waiting, certainty_in_range};
 ghost use Rattle.losses.specs.Feed.{fresh_loss_stream, loss_stream_in_range, capacity_of, marks_of, marks_fit, WritesLines, FeedsLosses, end_number, lines_at_end, loss_close_number, close_lines};
 ghost use Rattle.losses.specs.Block.{marks_front, Watched, TakesBlock, PartReady, PieceReady, TakesLines};
 ghost use Rattle.losses.specs.Run.{ListsRecording};
 
-use answer::Answer;
-use group_sync::{GroupSync, Place};
+use answer::Refusal;
+use group_sync::GroupSync;
 use receiver::Receiver;
-use reception_counts::Counts;
+use reception_counts::{Counts, outcome_number};
 
-// What is known of the places of the packets that were given.
+// What is known of the places of the packets that were given. Both cases have a meaning of their own, and None would not tell which it is.
 #[derive(Clone, Copy)]
 pub enum Certainty {
     // B8 fixed the place, and every block since was given.
@@ -26,7 +27,7 @@ pub enum Certainty {
 }
 
 // A receiver, what is known of the places, and the bytes after the last whole block with their marks: how many, and the fronts of arrays that have
-// them.
+// them, since no memory is taken for them.
 #[derive(Clone, Copy)]
 pub struct LossStream {
     pub receiver: Receiver,
@@ -36,19 +37,11 @@ pub struct LossStream {
     pub held: usize,
 }
 
-// An answer, how many lines were written, and the stream after it.
+// How many lines were written, and the stream after it.
 #[derive(Clone, Copy)]
 pub struct LossesFed {
-    pub answer: Answer,
     pub count: usize,
     pub stream: LossStream,
-}
-
-// An answer, and how many lines were written.
-#[derive(Clone, Copy)]
-pub struct LossesListed {
-    pub answer: Answer,
-    pub count: usize,
 }
 
 // How many lines were written, and what is known after a block.
@@ -58,20 +51,20 @@ struct Decided {
     count: usize,
 }
 
-// The same with the answer of the receiver's call, and the receiver after it.
+// The number of the answer of a call of the receiver, and the receiver after it.
+#[derive(Clone, Copy)]
+struct Called {
+    number: u8,
+    receiver: Receiver,
+}
+
+// The same, what is known of the places after it, and how many lines were written.
 #[derive(Clone, Copy)]
 pub struct BlockTaken {
-    pub answer: Answer,
+    pub number: u8,
     pub receiver: Receiver,
     pub certainty: Certainty,
     pub count: usize,
-}
-
-// How many lines were written, and the stream after it.
-#[derive(Clone, Copy)]
-struct LossesTaken {
-    count: usize,
-    stream: LossStream,
 }
 
 // How many packets wait.
@@ -84,7 +77,8 @@ pub fn waiting(certainty: Certainty) -> u8
     }
 }
 
-// What is known after a packet at another place than the first of a group.
+// What is known after a packet at another place than the first of a group. That at most seven wait stays a fact: the number of `Unsure` is public, and
+// `in_range` tests it.
 fn one_more(certainty: Certainty) -> Certainty
     requires { waiting_of certainty ≤ 7 }
     ensures { result ≡ and_one_more certainty }
@@ -96,32 +90,26 @@ fn one_more(certainty: Certainty) -> Certainty
 }
 
 // Whether B8 is due.
-pub fn start_due(place: Place) -> bool
+pub fn start_due(place: Option<u8>) -> bool
     ensures { result ≡ start_due_at place }
 {
-    match place {
-        Place::NotKnown => false,
-        Place::Known(p) => p == 0,
-    }
+    place == Some(0)
 }
 
 // Whether a packet that was given began with B8, by the place behind it.
-pub fn started(place: Place) -> bool
+pub fn started(place: Option<u8>) -> bool
     ensures { result ≡ started_at place }
 {
-    match place {
-        Place::NotKnown => false,
-        Place::Known(p) => p == 1,
-    }
+    place == Some(1)
 }
 
 // How many packets can wait.
-fn most_waiting(place: Place) -> u8
+fn most_waiting(place: Option<u8>) -> u8
     ensures { result ≡ most_waiting place }
 {
     match place {
-        Place::NotKnown => 0,
-        Place::Known(p) => (p % GroupSync::GROUP_LENGTH + 7) % GroupSync::GROUP_LENGTH,
+        None => 0,
+        Some(p) => (p % GroupSync::GROUP_LENGTH + 7) % GroupSync::GROUP_LENGTH,
     }
 }
 
@@ -129,21 +117,15 @@ fn most_waiting(place: Place) -> u8
 fn next_block(taken: u64) -> u64
     ensures { result ≡ taken - 11 }
 {
-    if taken < 11 { 0 } else { taken - 11 }
+    taken.saturating_sub(11)
 }
 
 // Whether no more packets wait than can.
-pub fn certainty_in_range(certainty: Certainty, place: Place, taken: u64) -> bool
+pub fn certainty_in_range(certainty: Certainty, place: Option<u8>, taken: u64) -> bool
     ensures { result ≡ certainty_in_range certainty place taken }
 {
     let count = waiting(certainty);
-    if most_waiting(place) < count {
-        return false;
-    }
-    if next_block(taken) < count as u64 {
-        return false;
-    }
-    true
+    count <= most_waiting(place) && count as u64 <= next_block(taken)
 }
 
 // A line: the block, and its answer.
@@ -159,10 +141,8 @@ fn put_doubts(block: u64, count: usize, lines: &mut [u64])
     requires { (block + count ≤ 4294967295) × (count ≤ length lines.old) }
     ensures { lines.new ≡ doubts block count ++ drop count lines.old }
 {
-    let mut i: usize = 0;
-    while i < count {
+    for i in 0..count {
         lines[i] = line(block + i as u64, 0);
-        i += 1;
     }
 }
 
@@ -211,6 +191,22 @@ fn decide(
     }
 }
 
+// A call of the receiver: the number of its answer, and the receiver after it, which is as it was where the call was refused.
+fn call_receiver(receiver: Receiver, block: &[u8], marks: &[u8], output: &mut [u8]) -> Called
+    ensures { ReceivesMarked receiver block.now marks.now output.old result.number result.receiver output.new }
+{
+    match receiver.receive_marked(block, marks, output) {
+        Ok(received) => Called {
+            number: outcome_number(received.outcome),
+            receiver: received.receiver,
+        },
+        Err(refusal) => Called {
+            number: refusal.number(),
+            receiver,
+        },
+    }
+}
+
 // Takes a block with its marks by a call of the receiver, which writes a packet to the output, and writes the lines that it decides.
 pub fn take_block(
     receiver: Receiver,
@@ -221,59 +217,45 @@ pub fn take_block(
     lines: &mut [u64],
 ) -> BlockTaken
     requires { Watched receiver certainty × (waiting_of certainty < length lines.old) × (188 ≤ length output.old) }
-    ensures { TakesBlock receiver certainty block.now marks.now output.old lines.old (number_of result.answer) result.count result.receiver result.certainty output.new lines.new }
+    ensures { TakesBlock receiver certainty block.now marks.now output.old lines.old result.number result.count result.receiver result.certainty output.new lines.new }
 {
-    let before = receiver.sync;
-    let place = before.place;
-    let counts = receiver.counts;
-    let taken = counts.taken;
-    let due = start_due(place);
-    let received = receiver.receive_marked(block, marks, output);
-    let answer = received.answer;
-    let next = received.receiver;
+    let due = start_due(receiver.sync.place);
+    let taken = receiver.counts.taken;
+    let called = call_receiver(receiver, block, marks, output);
     if taken < 11 {
         return BlockTaken {
-            answer,
-            receiver: next,
+            number: called.number,
+            receiver: called.receiver,
             certainty,
             count: 0,
         };
     }
-    let after = next.sync;
-    let place = after.place;
-    let start = started(place);
-    let decided = decide(certainty, taken - 11, answer.number(), due, start, lines);
-    let kept = decided.certainty;
+    let start = started(called.receiver.sync.place);
+    let decided = decide(certainty, taken - 11, called.number, due, start, lines);
     BlockTaken {
-        answer,
-        receiver: next,
-        certainty: kept,
+        number: called.number,
+        receiver: called.receiver,
+        certainty: decided.certainty,
         count: decided.count,
     }
 }
 
 // Ends the list: writes a line for each packet that still waits, in doubt.
-pub fn tell_waiting(certainty: Certainty, taken: u64, lines: &mut [u64]) -> LossesListed
+pub fn tell_waiting(certainty: Certainty, taken: u64, lines: &mut [u64]) -> Result<usize, Refusal>
     requires { (waiting_of certainty ≤ 7) × (waiting_of certainty ≤ taken - 11) × (taken ≤ 4294967295) }
-    ensures { (number_of result.answer ≡ end_number certainty lines.old)
-        × WritesLines (lines_at_end certainty taken lines.old) lines.old result.count lines.new }
+    ensures { (answered result ≡ end_number certainty lines.old)
+        × WritesLines (lines_at_end certainty taken lines.old) lines.old (given_or 0 (λ n. n) result) lines.new }
 {
     let count = waiting(certainty) as usize;
     if lines.len() < count {
-        return LossesListed {
-            answer: Answer::OutputLength,
-            count: 0,
-        };
+        return Err(Refusal::OutputLength);
     }
     put_doubts(next_block(taken) - count as u64, count, lines);
-    LossesListed {
-        answer: Answer::Done,
-        count,
-    }
+    Ok(count)
 }
 
 // Takes the part of a piece that at most completes a block, with a mark for each byte.
-fn take_part(stream: LossStream, part: &[u8], marks: &[u8], lines: &mut [u64]) -> LossesTaken
+fn take_part(stream: LossStream, part: &[u8], marks: &[u8], lines: &mut [u64]) -> LossesFed
     requires { PartReady stream part.now marks.now lines.old }
     ensures { TakesLines stream part.now marks.now lines.old result.count result.stream lines.new }
 {
@@ -286,7 +268,7 @@ fn take_part(stream: LossStream, part: &[u8], marks: &[u8], lines: &mut [u64]) -
     common::put(marks, held, &mut own);
     let end = held + part.len();
     if end < Receiver::BLOCK_LENGTH {
-        return LossesTaken {
+        return LossesFed {
             count: 0,
             stream: LossStream {
                 receiver,
@@ -301,7 +283,7 @@ fn take_part(stream: LossStream, part: &[u8], marks: &[u8], lines: &mut [u64]) -
     let taken = take_block(receiver, certainty, &pending, &own, &mut output, lines);
     let next = taken.receiver;
     let kept = taken.certainty;
-    LossesTaken {
+    LossesFed {
         count: taken.count,
         stream: LossStream {
             receiver: next,
@@ -318,12 +300,11 @@ fn marks_at(marks: &[u8], at: usize, size: usize) -> [u8; 204]
     requires { (size ≤ 204) × ((length marks.now ≡ 0) ⊎ (at + size ≤ length marks.now)) }
     ensures { result ≡ marks_front (take size (drop at marks.now)) }
 {
-    let mut own = [0u8; Receiver::BLOCK_LENGTH];
-    if marks.len() != 0 {
-        let end = at + size;
-        common::put(&marks[at..end], 0, &mut own);
+    if marks.is_empty() {
+        return [0u8; 204];
     }
-    own
+    let end = at + size;
+    common::joined(&marks[at..end], &[0u8; 0])
 }
 
 // How many of the bytes that are left go to the block that so many bytes begin.
@@ -331,20 +312,20 @@ fn part_length(held: usize, left: usize) -> usize
     requires { held < 204 }
     ensures { result ≡ min (204 - held) left }
 {
-    common::least((Receiver::BLOCK_LENGTH - held) as u64, left as u64) as usize
+    (Receiver::BLOCK_LENGTH - held).min(left)
 }
 
 // Takes a piece, with a mark for each byte or none at all.
-fn take_piece(stream: LossStream, piece: &[u8], marks: &[u8], lines: &mut [u64]) -> LossesTaken
+fn take_piece(stream: LossStream, piece: &[u8], marks: &[u8], lines: &mut [u64]) -> LossesFed
     requires { PieceReady stream piece.now marks.now lines.old }
     ensures { TakesLines stream piece.now (marks_of piece.now marks.now) lines.old result.count result.stream lines.new }
 {
     let mut state = stream;
     let mut at: usize = 0;
     let mut count: usize = 0;
+    // A `while`: each turn takes as many bytes as complete a block.
     while at < piece.len() {
-        let held = state.held;
-        let size = part_length(held, piece.len() - at);
+        let size = part_length(state.held, piece.len() - at);
         let end = at + size;
         let own = marks_at(marks, at, size);
         let taken = take_part(state, &piece[at..end], &own[..size], &mut lines[count..]);
@@ -352,7 +333,7 @@ fn take_piece(stream: LossStream, piece: &[u8], marks: &[u8], lines: &mut [u64])
         state = taken.stream;
         at = end;
     }
-    LossesTaken {
+    LossesFed {
         count,
         stream: state,
     }
@@ -362,10 +343,7 @@ fn take_piece(stream: LossStream, piece: &[u8], marks: &[u8], lines: &mut [u64])
 fn marks_fit(piece: &[u8], marks: &[u8]) -> bool
     ensures { result ≡ marks_fit piece.now marks.now }
 {
-    if marks.len() == 0 {
-        return true;
-    }
-    recording::are_marks_for(piece, marks)
+    marks.is_empty() || recording::are_marks_for(piece, marks)
 }
 
 // How many blocks are whole with so many bytes held and so many that come.
@@ -382,15 +360,11 @@ impl LossStream {
     pub fn new() -> LossStream
         ensures { result ≡ fresh_loss_stream }
     {
-        let receiver = Receiver::new();
-        let certainty = Certainty::Unsure(0);
-        let pending = [0u8; 204];
-        let marks = [0u8; 204];
         LossStream {
-            receiver,
-            certainty,
-            pending,
-            marks,
+            receiver: Receiver::new(),
+            certainty: Certainty::Unsure(0),
+            pending: [0; 204],
+            marks: [0; 204],
             held: 0,
         }
     }
@@ -399,119 +373,68 @@ impl LossStream {
     pub fn in_range(self) -> bool
         ensures { result ≡ loss_stream_in_range self }
     {
-        let receiver = self.receiver;
-        let certainty = self.certainty;
-        let marks = self.marks;
-        let held = self.held;
-        let sync = receiver.sync;
-        let place = sync.place;
-        let counts = receiver.counts;
-        let taken = counts.taken;
-        if !receiver.in_range() {
+        if !self.receiver.in_range() {
             return false;
         }
-        if held >= Receiver::BLOCK_LENGTH {
+        if self.held >= Receiver::BLOCK_LENGTH {
             return false;
         }
-        if common::largest_of(&marks[..held]) >= 2 {
+        if common::largest_of(&self.marks[..self.held]) >= 2 {
             return false;
         }
-        certainty_in_range(certainty, place, taken)
+        certainty_in_range(
+            self.certainty,
+            self.receiver.sync.place,
+            self.receiver.counts.taken,
+        )
     }
 
     // How many bytes more can be taken: those of the blocks that can be counted. None where a number is out of range.
     pub fn capacity(self) -> u64
         ensures { result ≡ pick (loss_stream_in_range self) (capacity_of self) 0 }
     {
-        let receiver = self.receiver;
-        let counts = receiver.counts;
-        let taken = counts.taken;
-        let held = self.held as u64;
         if !self.in_range() {
             return 0;
         }
-        let most = 204 * (Counts::MOST - taken);
-        if most < held { 0 } else { most - held }
+        (204 * (Counts::MOST - self.receiver.counts.taken)).saturating_sub(self.held as u64)
     }
 
     // Takes a piece of the received bytes, of any length, with a mark for each or none at all, and writes the lines that are decided then.
-    pub fn feed(self, piece: &[u8], marks: &[u8], lines: &mut [u64]) -> LossesFed
-        ensures { FeedsLosses self piece.now marks.now lines.old (number_of result.answer) result.count result.stream lines.new }
+    pub fn feed(self, piece: &[u8], marks: &[u8], lines: &mut [u64]) -> Result<LossesFed, Refusal>
+        ensures { FeedsLosses self piece.now marks.now lines.old (answered result) (given_or 0 (λ s. s.count) result) (given_or self (λ s. s.stream) result) lines.new }
     {
-        let certainty = self.certainty;
-        let held = self.held;
         if !self.in_range() {
-            return LossesFed {
-                answer: Answer::StateRange,
-                count: 0,
-                stream: self,
-            };
+            return Err(Refusal::StateRange);
         }
         if !marks_fit(piece, marks) {
-            return LossesFed {
-                answer: Answer::MarkValue,
-                count: 0,
-                stream: self,
-            };
+            return Err(Refusal::MarkValue);
         }
-        if lines.len() < waiting(certainty) as usize + blocks_in(held, piece.len()) {
-            return LossesFed {
-                answer: Answer::OutputLength,
-                count: 0,
-                stream: self,
-            };
+        if lines.len() < waiting(self.certainty) as usize + blocks_in(self.held, piece.len()) {
+            return Err(Refusal::OutputLength);
         }
         if self.capacity() < piece.len() as u64 {
-            return LossesFed {
-                answer: Answer::CountsFull,
-                count: 0,
-                stream: self,
-            };
+            return Err(Refusal::CountsFull);
         }
-        let taken = take_piece(self, piece, marks, lines);
-        let count = taken.count;
-        let stream = taken.stream;
-        LossesFed {
-            answer: Answer::Done,
-            count,
-            stream,
-        }
+        Ok(take_piece(self, piece, marks, lines))
     }
 
-    // Ends the list: the packets that still wait are in doubt.
-    pub fn close(self, lines: &mut [u64]) -> LossesListed
-        ensures { (number_of result.answer ≡ loss_close_number self lines.old)
-            × WritesLines (close_lines self lines.old) lines.old result.count lines.new }
+    // Ends the list: the packets that still wait are in doubt. How many lines were written.
+    pub fn close(self, lines: &mut [u64]) -> Result<usize, Refusal>
+        ensures { (answered result ≡ loss_close_number self lines.old)
+            × WritesLines (close_lines self lines.old) lines.old (given_or 0 (λ n. n) result) lines.new }
     {
-        let receiver = self.receiver;
-        let certainty = self.certainty;
-        let counts = receiver.counts;
-        let taken = counts.taken;
         if !self.in_range() {
-            return LossesListed {
-                answer: Answer::StateRange,
-                count: 0,
-            };
+            return Err(Refusal::StateRange);
         }
-        tell_waiting(certainty, taken, lines)
+        tell_waiting(self.certainty, self.receiver.counts.taken, lines)
     }
 }
 
-// The list of a whole recording, with a mark for each byte or none at all.
-pub fn list_losses(bytes: &[u8], marks: &[u8], lines: &mut [u64]) -> LossesListed
-    ensures { ListsRecording bytes.now marks.now lines.old (number_of result.answer) result.count lines.new }
+// The list of a whole recording, with a mark for each byte or none at all: how many lines were written.
+pub fn list_losses(bytes: &[u8], marks: &[u8], lines: &mut [u64]) -> Result<usize, Refusal>
+    ensures { ListsRecording bytes.now marks.now lines.old (answered result) (given_or 0 (λ n. n) result) lines.new }
 {
-    let stream = LossStream::new();
-    let fed = stream.feed(bytes, marks, lines);
-    let answer = fed.answer;
-    let count = fed.count;
-    let last = fed.stream;
-    if answer.number() != 0 {
-        return LossesListed { answer, count: 0 };
-    }
-    let closed = last.close(&mut lines[count..]);
-    LossesListed {
-        answer: Answer::Done,
-        count: count + closed.count,
-    }
+    let fed = LossStream::new().feed(bytes, marks, lines)?;
+    let told = fed.stream.close(&mut lines[fed.count..])?;
+    Ok(fed.count + told)
 }

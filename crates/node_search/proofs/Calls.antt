@@ -1,11 +1,11 @@
 -- A call of the search: the number of its answer, by its tests.
 -- Assumes nothing.
-use mathlib.Core.Path.{◌≡◌, refl, sym, ◌∙◌, ap, subst}
+use mathlib.Core.Path.{◌≡◌, refl, sym, ◌∙◌, subst}
 use mathlib.Core.Bool.{Bool, true, false}
 use mathlib.Core.List.{List, [], ◌++◌}
 use Prim.Native.Nat.{ℕ, ◌≤◌, ◌<◌}
 use native.Mathlib.Omega.{arith}
-use borrow.Author.Tests.{lt-ltb, le-ltb, eq-eqb, ne_eqb}
+use borrow.Author.Tests.{lt-ltb, le-ltb, eq-eqb}
 use lib.Dec.{eqb, ltb}
 use lib.ListN.{length}
 use Rattle.common.specs.Choice.{pick}
@@ -26,12 +26,6 @@ module _ (rate : ℕ) (window : List ℕ) where
 
   -- the refusals
   module _ {number : ℕ} {search : Search} (nothing : search ≡ Nothing) where
-    pub another_rate : 6 ≤ rate → number ≡ 6 → SearchesWindow rate window number search
-    another_rate h e = refused (e ∙ sym (ap (λ (b : Bool). pick b (pick (eqb (length window) window_length) (pick (ltb (largest window) 81) 0 14) 13) 6) (le-ltb rate 6 h))) (omega arith) nothing
-
-    pub another_length : rate < 6 → (length window ≡ window_length → ⊥) → number ≡ 13 → SearchesWindow rate window number search
-    another_length h n e = refused (e ∙ sym (number_by true false (ltb (largest window) 81) (lt-ltb rate 6 h) (ne_eqb (length window) window_length n) refl)) (omega arith) nothing
-
     pub no_decisions : rate < 6 → length window ≡ window_length → 81 ≤ largest window → number ≡ 14 → SearchesWindow rate window number search
     no_decisions h l n e = refused (e ∙ sym (number_by true true false (lt-ltb rate 6 h) (eq-eqb (length window) window_length l) (le-ltb (largest window) 81 n))) (omega arith) nothing
 

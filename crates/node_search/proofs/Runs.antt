@@ -2,7 +2,7 @@
 -- Assumes nothing.
 use mathlib.Core.Path.{◌≡◌, refl, sym, ◌∙◌, ap, ap₂, subst}
 use mathlib.Core.Bool.{Bool, true, false}
-use mathlib.Core.List.{List, [], ◌∷◌, ◌++◌, map, append_assoc}
+use mathlib.Core.List.{List, ◌++◌, map, append_assoc}
 use Prim.Native.Nat.{ℕ, zero, suc, ◌+◌, ◌-◌, ◌*◌, ◌/◌, ◌%◌, ◌≤◌, ◌<◌}
 use Prim.{tt}
 use native.Mathlib.Omega.{arith}
@@ -76,39 +76,22 @@ module _ (rate turn : ℕ) (hr : rate < 5) (ht : turn < 8) (pairs : List ℕ) (s
 
 -- ---- what is written
 
-abbrev pub unknown_six : List ℕ
-unknown_six = 80 ∷ 80 ∷ 80 ∷ 80 ∷ 80 ∷ 80 ∷ []
-
-unknown_front : (n : ℕ) → n ≤ 6 → take n unknown_six ≡ replicate n 80
-unknown_front zero h = refl
-unknown_front (suc zero) h = refl
-unknown_front (suc (suc zero)) h = refl
-unknown_front (suc (suc (suc zero))) h = refl
-unknown_front (suc (suc (suc (suc zero)))) h = refl
-unknown_front (suc (suc (suc (suc (suc zero))))) h = refl
-unknown_front (suc (suc (suc (suc (suc (suc zero)))))) h = refl
-unknown_front (suc (suc (suc (suc (suc (suc (suc n))))))) h = absurd (omega arith)
-
--- a buffer to whose front unknown symbols were put, and behind them the turned ones
-pub led_written : (rate turn : ℕ) → rate < 5 → (pairs : List ℕ) (lead : ℕ) → lead ≡ lead_symbols rate → (run behind : List ℕ) → run ≡ take (lead - 0) unknown_six ++ behind
+-- a buffer whose front is filled with unknown symbols, and behind them the turned ones
+pub led_written : (rate turn : ℕ) (pairs : List ℕ) (lead : ℕ) → lead ≡ lead_symbols rate → (front behind : List ℕ) → front ≡ replicate lead 80
     → (back : ℕ) → back ≡ undoing turn → (part rest post : List ℕ) → part ≡ map (turned_pair back) pairs ++ rest
-    → take (length (led_run rate turn pairs)) (take lead run ++ (part ++ post)) ≡ led_run rate turn pairs
-led_written rate turn hr pairs lead el run behind er back eb part rest post ep =
-    let n = numbers rate hr in
+    → take (length (led_run rate turn pairs)) (take lead (front ++ behind) ++ (part ++ post)) ≡ led_run rate turn pairs
+led_written rate turn pairs lead el front behind ef back eb part rest post ep =
     let turned : List ℕ = map (turned_pair (undoing turn)) pairs in
-    let z : lead - 0 ≡ lead = omega arith in
-    let f : take (lead - 0) unknown_six ≡ replicate (lead_symbols rate) 80 =
-    ap (λ (k : ℕ). take k unknown_six) (z ∙ el) ∙ unknown_front (lead_symbols rate) n.lead_most in
-    let l : length (take (lead - 0) unknown_six) ≡ lead = ap length f ∙ (length-replicate {A = ℕ} (lead_symbols rate) 80 ∙ sym el) in
-    let front : take lead run ≡ replicate (lead_symbols rate) 80 = ap (take lead) er ∙ (take_at (take (lead - 0) unknown_six) behind lead l ∙ f) in
-    let all : take lead run ++ (part ++ post) ≡ led_run rate turn pairs ++ (rest ++ post) =
-    ap₂ (λ (x y : List ℕ). x ++ (y ++ post)) front (ep ∙ ap (λ (u : ℕ). map (turned_pair u) pairs ++ rest) eb)
+    let l : length front ≡ lead = ap length ef ∙ length-replicate {A = ℕ} lead 80 in
+    let f : take lead (front ++ behind) ≡ replicate (lead_symbols rate) 80 = take_at front behind lead l ∙ (ef ∙ ap (λ (k : ℕ). replicate k 80) el) in
+    let all : take lead (front ++ behind) ++ (part ++ post) ≡ led_run rate turn pairs ++ (rest ++ post) =
+    ap₂ (λ (x y : List ℕ). x ++ (y ++ post)) f (ep ∙ ap (λ (u : ℕ). map (turned_pair u) pairs ++ rest) eb)
     ∙ (ap (λ (x : List ℕ). replicate (lead_symbols rate) 80 ++ x) (append_assoc turned rest post) ∙ sym (append_assoc (replicate (lead_symbols rate) 80) turned (rest ++ post))) in
     ap (take (length (led_run rate turn pairs))) all ∙ take_at (led_run rate turn pairs) (rest ++ post) (length (led_run rate turn pairs)) refl
 
 -- so much of it is the run
-pub led_is : (rate turn : ℕ) → rate < 5 → (pairs : List ℕ) → length pairs ≡ tried_symbols rate → (lead : ℕ) → lead ≡ lead_symbols rate → (run : List ℕ)
-    → take (length (led_run rate turn pairs)) run ≡ led_run rate turn pairs → take (lead + length pairs - 0) run ≡ led_run rate turn pairs
-led_is rate turn hr pairs size lead el run e =
-    let n : lead + length pairs - 0 ≡ length (led_run rate turn pairs) = omega (arith, el, size, led_length rate turn pairs size) in
+pub led_is : (rate turn : ℕ) (pairs : List ℕ) → length pairs ≡ tried_symbols rate → (lead : ℕ) → lead ≡ lead_symbols rate → (run : List ℕ)
+    → take (length (led_run rate turn pairs)) run ≡ led_run rate turn pairs → take (lead + length pairs) run ≡ led_run rate turn pairs
+led_is rate turn pairs size lead el run e =
+    let n : lead + length pairs ≡ length (led_run rate turn pairs) = omega (arith, el, size, led_length rate turn pairs size) in
     ap (λ (k : ℕ). take k run) n ∙ e

@@ -7,7 +7,6 @@ use Prim.{tt}
 use native.Mathlib.Numerals.{add-one}
 use native.Mathlib.Omega.{arith}
 use lib.ListN.{length, get_or, take}
-use lib.Seq.{take_all}
 use Rattle.common.specs.Lists.{All, total}
 use Rattle.common.proofs.Computed.{agree_at}
 use Rattle.common.proofs.Lists.{All-at}
@@ -34,9 +33,6 @@ pub record Summing (table pairs : List ℕ) (sum k : ℕ) : Type 0 where
   pub is : sum ≡ total (of_pair (looked table)) (take k pairs)
   pub small : sum ≤ 14 * k
 
-pub summing_none : (table pairs : List ℕ) → Summing table pairs 0 0
-summing_none table pairs = record { most = omega arith; is = refl; small = omega arith }
-
 pub summing_more : {table pairs : List ℕ} {sum k : ℕ} → Summing table pairs sum k → k < length pairs → (x y : ℕ) → x ≡ looked table (get_or pairs k 0 / 9) → y ≡ looked table (get_or pairs k 0 % 9)
     → x ≤ 7 → y ≤ 7 → Summing table pairs (sum + (x + y)) (k + 1)
 summing_more {table} {pairs} {sum} {k} s h x y ex ey hx hy =
@@ -47,10 +43,6 @@ summing_more {table} {pairs} {sum} {k} s h x y ex ey hx hy =
           ∙ (sym (total_more (of_pair (looked table)) pairs k h) ∙ ap (λ (j : ℕ). total (of_pair (looked table)) (take j pairs)) (sym (add-one k)));
       small = omega (arith, s.small);
     }
-
-pub summing_all : {table pairs : List ℕ} {sum k : ℕ} → Summing table pairs sum k → length pairs ≤ k
-    → (sum ≡ total (of_pair (looked table)) pairs) × (sum ≤ 14 * length pairs)
-summing_all {table} {pairs} {sum} {k} s h = (s.is ∙ ap (total (of_pair (looked table))) (take_all k pairs h), omega (arith, s.small, s.most))
 
 -- ---- the two tables
 

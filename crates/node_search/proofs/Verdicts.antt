@@ -96,9 +96,6 @@ within rate k hr hk =
 abbrev turns : List ℕ
 turns = 0 ∷ 1 ∷ 4 ∷ 5 ∷ []
 
-pub some_turns : (rate : ℕ) → rate < 5 → {count : ℕ} → count ≡ length (turns_told rate) → 0 < count
-some_turns rate hr e = subst (λ (n : ℕ). 0 < n) (sym e) (ltb→lt _ _ (below_at (λ r. ltb 0 (length (turns_told r))) 5 tt rate hr))
-
 pub hypothesis_is : (rate k : ℕ) → rate < 5 → k < hypothesis_count rate → {count : ℕ} → count ≡ length (turns_told rate)
     → (hypothesis rate (k / count) (get_or turns (k % count) 0) ≡ hypothesis_at rate k) × (k / count < 4) × (get_or turns (k % count) 0 < 8)
 hypothesis_is rate k hr hk {count} e =

@@ -4,17 +4,15 @@
 #![tactic(auto)]
 
 ghost use Rattle.std.specs.Prelude.{◌≡◌, List, ◌++◌, ◌*◌, ◌<◌, ◌≤◌, length, get_or, take};
-ghost use Rattle.answer.specs.Number.{number_of};
-ghost use Rattle.common.specs.Choice.{pick};
+ghost use Rattle.answer.specs.Number.{answered, given_or};
 ghost use Rattle.common.specs.Lists.{All, total};
-ghost use Rattle.node_search.specs.Hypotheses.{hypothesis, turns_told, hypothesis_at, hypothesis_count, hypotheses_of, hypotheses_below};
+ghost use Rattle.node_search.specs.Hypotheses.{turns_told, hypothesis_at, hypothesis_count, hypotheses_of, hypotheses_below};
 ghost use Rattle.node_search.specs.Search.{adding, Searches, SearchesWindow};
 ghost use Rattle.node_search.specs.Weight.{of_pair, tried_symbols, led_run, LeastCost, threshold, Measured, Weighed};
 ghost use Rattle.node_search.specs.declared.Hypothesis.{Hypothesis};
 ghost use Rattle.node_search.specs.declared.Search.TheVariants.{Nothing};
 
-use answer::Answer;
-use common::put;
+use answer::Refusal;
 use free_start::lead_symbols;
 use reader::{read_pairs, symbol_count};
 use symbol_turns::{turn_pairs, undoing_turn};
@@ -38,11 +36,9 @@ pub enum Search {
     Several,
 }
 
-#[derive(Clone, Copy)]
-pub struct Searched {
-    pub answer: Answer,
-    pub search: Search,
-}
+// The decisions on the symbols of a window, two as one number. That each is one stays a fact beside it: a type for it would be taken apart at each symbol, and
+// `search_window`, which tests it, takes any bytes.
+type Window = [u8; 1632];
 
 // The number that asks for any rate.
 pub const ANY_RATE: u8 = 5;
@@ -50,42 +46,70 @@ pub const ANY_RATE: u8 = 5;
 // The classes of turns that can be told; at rate 5/6 the first two.
 const TURNS: [u8; 4] = [0, 1, 4, 5];
 
-// How many of them each rate tells.
-const TURN_COUNTS: [usize; 5] = [4, 4, 4, 2, 4];
+// What a rate has: how many of the classes it tells, how many symbols of a window are read, and the threshold in ten-thousandths.
+#[derive(Clone, Copy)]
+struct Trial {
+    turns: usize,
+    symbols: usize,
+    threshold: u64,
+}
 
-// The symbols of a window that are read at each rate.
-const TRIED_SYMBOLS: [usize; 5] = [1626, 1218, 1084, 972, 928];
+const TRIALS: [Trial; 5] = [
+    Trial {
+        turns: 4,
+        symbols: 1626,
+        threshold: 760,
+    },
+    Trial {
+        turns: 4,
+        symbols: 1218,
+        threshold: 400,
+    },
+    Trial {
+        turns: 4,
+        symbols: 1084,
+        threshold: 255,
+    },
+    Trial {
+        turns: 2,
+        symbols: 972,
+        threshold: 120,
+    },
+    Trial {
+        turns: 4,
+        symbols: 928,
+        threshold: 72,
+    },
+];
 
-// In ten-thousandths.
-const THRESHOLDS: [u64; 5] = [760, 400, 255, 120, 72];
-
-// Symbols of which nothing is known, as many as the longest lead has.
-const UNKNOWN: [u8; 6] = [80, 80, 80, 80, 80, 80];
+// The decisions on a symbol of which nothing is known.
+const UNKNOWN: u8 = 80;
 
 // What the cheaper value of a decided bit costs, and how much more the other does.
 const CHEAPER: [u8; 9] = [0, 1, 2, 3, 3, 2, 1, 0, 0];
 
 const APART: [u8; 9] = [7, 5, 3, 1, 1, 3, 5, 7, 0];
 
+// A rate stays a number, and so does a turn: the calls of the library take any and refuse those that are none, and the definitions count with them.
 fn tried_symbols(rate: u8) -> usize
     requires { rate < 5 }
     ensures { result ≡ tried_symbols rate }
 {
-    TRIED_SYMBOLS[rate as usize]
+    TRIALS[rate as usize].symbols
 }
 
 fn threshold_of(rate: u8) -> u64
     requires { rate < 5 }
     ensures { result ≡ threshold rate }
 {
-    THRESHOLDS[rate as usize]
+    TRIALS[rate as usize].threshold
 }
 
 fn turn_count(rate: u8) -> usize
     requires { rate < 5 }
     ensures { result ≡ length (turns_told rate) }
 {
-    TURN_COUNTS[rate as usize]
+    TRIALS[rate as usize].turns
 }
 
 // Hypothesis k of a rate.
@@ -107,58 +131,56 @@ fn total_of(table: &[u8; 9], pairs: &[u8]) -> u64
     ensures { (result ≡ total (of_pair (λ d. get_or table.now d 0)) pairs.now) × (result ≤ 14 * length pairs.now) }
 {
     let mut sum: u64 = 0;
-    let mut k: usize = 0;
-    while k < pairs.len() {
-        let p = pairs[k];
-        let i = table[(p / 9) as usize];
-        let q = table[(p % 9) as usize];
+    for p in pairs {
+        let i = table[(*p / 9) as usize];
+        let q = table[(*p % 9) as usize];
         sum += (i + q) as u64;
-        k += 1;
     }
     sum
 }
 
-// Writes the run that is read: unknown symbols, and then the symbols turned back.
-fn lead_run(rate: u8, turn: u8, pairs: &[u8], run: &mut [u8])
-    requires { (rate < 5) × (turn < 8) × (length pairs.now ≡ tried_symbols rate) × (All (λ p. p < 81) pairs.now) × (length run.old ≡ 1632) }
-    ensures { take (length (led_run rate turn pairs.now)) run.new ≡ led_run rate turn pairs.now }
+// Writes the run that is read: unknown symbols, and then the symbols turned back. How many symbols are tried depends on the rate, so they are a slice.
+fn lead_run(h: Hypothesis, pairs: &[u8], run: &mut [u8; 1632])
+    requires { (h.rate < 5) × (h.turn < 8) × (length pairs.now ≡ tried_symbols h.rate) × (All (λ p. p < 81) pairs.now) }
+    ensures { take (length (led_run h.rate h.turn pairs.now)) run.new ≡ led_run h.rate h.turn pairs.now }
 {
-    let lead = lead_symbols(rate);
-    put(&UNKNOWN[0..lead], 0, run);
-    turn_pairs(undoing_turn(turn), pairs, &mut run[lead..]);
+    let lead = lead_symbols(h.rate);
+    run[..lead].fill(UNKNOWN);
+    turn_pairs(undoing_turn(h.turn), pairs, &mut run[lead..]);
 }
 
 // What reading it costs. It is written to `run`, and read into `bits`.
-fn least_cost(rate: u8, turn: u8, pairs: &[u8], run: &mut [u8], bits: &mut [u8]) -> u64
-    requires { (rate < 5) × (turn < 8) × (length pairs.now ≡ tried_symbols rate) × (All (λ p. p < 81) pairs.now) × (length run.old ≡ 1632) × (length bits.old ≡ 1632) }
-    ensures { (LeastCost rate (led_run rate turn pairs.now) result) × (result ≤ 22848) }
+fn least_cost(h: Hypothesis, pairs: &[u8], run: &mut [u8; 1632], bits: &mut [u8; 1632]) -> u64
+    requires { (h.rate < 5) × (h.turn < 8) × (length pairs.now ≡ tried_symbols h.rate) × (All (λ p. p < 81) pairs.now) }
+    ensures { (LeastCost h.rate (led_run h.rate h.turn pairs.now) result) × (result ≤ 22848) }
 {
-    lead_run(rate, turn, pairs, run);
-    let end = lead_symbols(rate) + pairs.len();
-    let read = read_pairs(rate, 0, &run[0..end], bits);
+    lead_run(h, pairs, run);
+    let end = lead_symbols(h.rate) + pairs.len();
+    let read = read_pairs(h.rate, 0, &run[..end], bits);
     read.cost
 }
 
-// Whether symbols, turned back, are below the threshold of a rate.
-fn is_below(rate: u8, turn: u8, pairs: &[u8]) -> bool
-    requires { (rate < 5) × (turn < 8) × (length pairs.now ≡ tried_symbols rate) × (All (λ p. p < 81) pairs.now) }
-    ensures { Measured rate turn pairs.now result }
+// Whether symbols, turned back, are below the threshold of a hypothesis's rate.
+fn is_below(h: Hypothesis, pairs: &[u8]) -> bool
+    requires { (h.rate < 5) × (h.turn < 8) × (length pairs.now ≡ tried_symbols h.rate) × (All (λ p. p < 81) pairs.now) }
+    ensures { Measured h.rate h.turn pairs.now result }
 {
     let mut run = [0u8; 1632];
     let mut bits = [0u8; 1632];
-    let cost = least_cost(rate, turn, pairs, &mut run, &mut bits);
+    let cost = least_cost(h, pairs, &mut run, &mut bits);
     let floor = total_of(&CHEAPER, pairs);
     let weight = total_of(&APART, pairs);
-    10000 * cost < 10000 * floor + threshold_of(rate) * weight
+    10000 * cost < 10000 * floor + threshold_of(h.rate) * weight
 }
 
 // Whether a hypothesis about the window is below its threshold.
-fn is_candidate(rate: u8, offset: usize, turn: u8, window: &[u8]) -> bool
-    requires { (rate < 5) × (offset < 4) × (turn < 8) × (length window.now ≡ 1632) × (All (λ p. p < 81) window.now) }
-    ensures { Weighed window.now (hypothesis rate offset turn) result }
+fn is_candidate(h: Hypothesis, window: &Window) -> bool
+    requires { (h.rate < 5) × (h.offset < 4) × (h.turn < 8) × (All (λ p. p < 81) window.now) }
+    ensures { Weighed window.now h result }
 {
-    let end = offset + tried_symbols(rate);
-    is_below(rate, turn, &window[offset..end])
+    let offset = h.offset as usize;
+    let end = offset + tried_symbols(h.rate);
+    is_below(h, &window[offset..end])
 }
 
 // What a search has come to with one candidate more.
@@ -172,79 +194,49 @@ fn added(search: Search, h: Hypothesis) -> Search
     }
 }
 
-// The same with one hypothesis more, which is a candidate or not.
-fn counted(search: Search, below: bool, h: Hypothesis) -> Search
-    ensures { result ≡ pick below (adding search h) search }
-{
-    if below {
-        return added(search, h);
-    }
-    search
-}
-
 // Searches the hypotheses of a rate after others.
-fn search_rate(rate: u8, window: &[u8], before: Search) -> Search
-    requires { (rate < 5) × (length window.now ≡ 1632) × (All (λ p. p < 81) window.now) }
+fn search_rate(rate: u8, window: &Window, before: Search) -> Search
+    requires { (rate < 5) × (All (λ p. p < 81) window.now) }
     ensures { (hs : List Hypothesis) → Searches window.now hs before → Searches window.now (hs ++ hypotheses_of rate) result }
 {
     let count = symbol_count(rate) as usize * turn_count(rate);
     let mut found = before;
-    let mut k: usize = 0;
-    while k < count {
+    for k in 0..count {
         let h = hypothesis_at(rate, k);
-        let below = is_candidate(rate, h.offset as usize, h.turn, window);
-        found = counted(found, below, h);
-        k += 1;
+        if is_candidate(h, window) {
+            found = added(found, h);
+        }
     }
     found
 }
 
 // Searches the hypotheses of all rates.
-fn search_rates(window: &[u8]) -> Search
-    requires { (length window.now ≡ 1632) × (All (λ p. p < 81) window.now) }
+fn search_rates(window: &Window) -> Search
+    requires { All (λ p. p < 81) window.now }
     ensures { Searches window.now (hypotheses_below 5) result }
 {
     let mut found = Search::Nothing;
-    let mut rate: u8 = 0;
-    while rate < 5 {
+    for rate in 0..5 {
         found = search_rate(rate, window, found);
-        rate += 1;
     }
     found
 }
 
-fn refused(answer: Answer) -> Searched
-    ensures { (result.answer ≡ answer) × (result.search ≡ Nothing) }
-{
-    Searched {
-        answer,
-        search: Search::Nothing,
-    }
-}
-
 // Searches a window of received symbols, the decisions on each as one number, at a rate from 0 to 4 or at any rate.
-pub fn search_window(rate: u8, window: &[u8]) -> Searched
-    ensures { SearchesWindow rate window.now (number_of result.answer) result.search }
+pub fn search_window(rate: u8, window: &[u8]) -> Result<Search, Refusal>
+    ensures { SearchesWindow rate window.now (answered result) (given_or Nothing (λ search. search) result) }
 {
     if rate > ANY_RATE {
-        return refused(Answer::UnknownRate);
+        return Err(Refusal::UnknownRate);
     }
-    if window.len() != 1632 {
-        return refused(Answer::RunLength);
-    }
+    let Ok(window) = <&Window>::try_from(window) else {
+        return Err(Refusal::RunLength);
+    };
     if common::largest_of(window) >= 81 {
-        return refused(Answer::SymbolRange);
+        return Err(Refusal::SymbolRange);
     }
     if rate < ANY_RATE {
-        let found = search_rate(rate, window, Search::Nothing);
-        return Searched {
-            answer: Answer::Done,
-            search: found,
-        };
+        return Ok(search_rate(rate, window, Search::Nothing));
     }
-    let found = search_rates(window);
-    Searched {
-        answer: Answer::Done,
-        search: found,
-    }
+    Ok(search_rates(window))
 }

@@ -7,10 +7,9 @@ use native.Mathlib.Omega.{arith}
 use borrow.Author.Tests.{eqb-true}
 use lib.Dec.{eqb}
 use lib.Ieee.{of_bits, binary32}
+use Rattle.std.specs.Prelude.{Some}
 use Rattle.common.specs.Choice.{pick}
-use Rattle.branch_metrics.specs.Cost.{BitCosts, symbol_costs, decided_as, softly}
-use Rattle.branch_metrics.specs.declared.soft_decision.ReceivedSymbol.{ReceivedSymbol}
-use Rattle.branch_metrics.specs.declared.soft_decision.ReceivedSymbol.TheVariants.{At}
+use Rattle.branch_metrics.specs.Cost.{BitCosts, symbol_costs, decided_as, softly, ReceivedSymbol}
 use Rattle.branch_metrics.proofs.Numbers.{costs_one}
 use Rattle.reader.specs.Cost.{differing}
 use Rattle.noise_tolerance.specs.Noise.{bit_doubt, soft_doubt}
@@ -96,7 +95,7 @@ unlost_part : ReceivedSymbol → ℕ → ℕ → ℕ
 unlost_part r b v = pick (was_lost r) 0 (bit_doubt (soft_part r b) v)
 
 point : ReceivedSymbol
-point = At (record { i = of_bits binary32 0x3f80_0000; q = of_bits binary32 0x3f80_0000 })
+point = Some (record { i = of_bits binary32 0x3f80_0000; q = of_bits binary32 0x3f80_0000 })
 
 point_unlost : was_lost point ≡ false
 unfolding was_lost symbol_costs point

@@ -12,8 +12,7 @@ use Rattle.common.specs.Lists.{All}
 use Rattle.inner_code.specs.Step.{symbols_of}
 use Rattle.inner_code.specs.Encode.{coder_at}
 use Rattle.viterbi_decoder.specs.Best.{Best}
-use Rattle.branch_metrics.specs.Cost.{softly, received_of}
-use Rattle.branch_metrics.specs.declared.soft_decision.ReceivedSymbol.{ReceivedSymbol}
+use Rattle.branch_metrics.specs.Cost.{softly, received_of, ReceivedSymbol}
 use Rattle.reader.specs.Cost.{differing, total_cost, run_cost, hard_cost, soft_cost}
 use Rattle.reader.specs.Read.{symbols_per_pattern, run_bits, length_of_run, sound, read_number, soft_number, BestRead, AnswersRun, refused, read, ReadsHard, ReadsSoft}
 use Rattle.reader.proofs.Patterns.{sent_whole}

@@ -9,6 +9,7 @@ use native.Mathlib.Omega.{arith}
 use borrow.Author.Tests.{eqb-true}
 use lib.Dec.{eqb}
 use lib.ListN.{length, get_or, take, length-map}
+use Rattle.std.specs.Prelude.{None}
 use Rattle.common.specs.Choice.{pick, unequal}
 use Rattle.common.proofs.Lists.{get_d_map_in}
 use Rattle.convolutional_code.specs.Bits.{Bits}
@@ -18,9 +19,7 @@ use Rattle.puncturing.specs.Step.{pattern_length}
 use Rattle.inner_code.specs.Step.{symbols_of}
 use Rattle.inner_code.specs.Encode.{coder_at}
 use Rattle.branch_metrics.specs.Steps.{punctured_costs}
-use Rattle.branch_metrics.specs.Cost.{BitCosts, symbol_costs, decided_as, softly}
-use Rattle.branch_metrics.specs.declared.soft_decision.ReceivedSymbol.{ReceivedSymbol}
-use Rattle.branch_metrics.specs.declared.soft_decision.ReceivedSymbol.TheVariants.{Lost}
+use Rattle.branch_metrics.specs.Cost.{BitCosts, symbol_costs, decided_as, softly, ReceivedSymbol}
 use Rattle.reader.specs.Cost.{differing, run_cost}
 use Rattle.reader.specs.Read.{symbols_per_pattern, run_bits, length_of_run}
 use Rattle.reader.proofs.Costs.{Splits}
@@ -179,7 +178,7 @@ soft_cheap r (suc b) v = decided_small r 1 (eqb v 0)
 pub soft_kind : Kind softly soft_doubt 7
 unfolding soft_part
 soft_kind = record {
-  some = Lost;
+  some = None;
   part = λ r b v. decided_as (soft_part r b) v;
   part_doubt = λ r b v. bit_doubt (soft_part r b) v;
   counts = omega arith;

@@ -6,8 +6,7 @@ use Rattle.puncturing.specs.Mode.{qpsk_count}
 use Rattle.puncturing.specs.Step.{pattern_length}
 use Rattle.inner_code.specs.Step.{symbols_of}
 use Rattle.inner_code.specs.Encode.{coder_at}
-use Rattle.branch_metrics.specs.Cost.{BitCosts, symbol_costs, decided_as}
-use Rattle.branch_metrics.specs.declared.soft_decision.ReceivedSymbol.{ReceivedSymbol}
+use Rattle.branch_metrics.specs.Cost.{BitCosts, symbol_costs, decided_as, ReceivedSymbol}
 use Rattle.reader.specs.Cost.{total_cost}
 use Rattle.reader.specs.Read.{symbols_per_pattern, run_bits}
 use Rattle.noise_tolerance.specs.Table.{Limits}

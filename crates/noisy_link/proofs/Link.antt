@@ -12,7 +12,6 @@ use Rattle.common.specs.Choice.{pick}
 use Rattle.common.specs.Lists.{All, Bytes, chunks_of, rest_of}
 use Rattle.common.proofs.Chunks.{cut, length-chunks}
 use Rattle.common.proofs.Computed.{below_at}
-use Rattle.answer.specs.Number.{number_of}
 use Rattle.convolutional_code.specs.Bits.{bits_of}
 use Rattle.convolutional_code.proofs.Bits.{bits_bits}
 use Rattle.puncturing.specs.Mode.{mode_of, qpsk_count}
@@ -48,14 +47,14 @@ pub kept_front : (n : ℕ) {s last : Receiver} {blocks : List (List ℕ)} {numbe
     → KeptFront n s blocks numbers given
 kept_front zero {s} {given = given} k = record { middle = s; front = []; later = given; kept = none; packets_are = refl }
 kept_front (suc n) {s} none = record { middle = s; front = []; later = []; kept = none; packets_are = refl }
-kept_front (suc n) (call block output exit r h p k) =
+kept_front (suc n) (call block output exit number next h p k) =
     let f = kept_front n k in
-    let one : List (List ℕ) = pick (eqb (number_of r.answer) 0) (take 188 exit ∷ []) [] in
+    let one : List (List ℕ) = pick (eqb number 0) (take 188 exit ∷ []) [] in
     record {
       middle = f.middle;
       front = one ++ f.front;
       later = f.later;
-      kept = call block output exit r h p f.kept;
+      kept = call block output exit number next h p f.kept;
       packets_are = ap (λ (x : List (List ℕ)). one ++ x) f.packets_are ∙ sym (append_assoc one f.front f.later);
     }
 

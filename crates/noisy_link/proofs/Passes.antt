@@ -4,8 +4,7 @@ use mathlib.Core.Path.{◌≡◌, ap, ◌∙◌}
 use mathlib.Core.List.{List, map}
 use Prim.Native.Nat.{ℕ, ◌%◌}
 use lib.ListN.{length, take}
-use Rattle.branch_metrics.specs.Cost.{softly}
-use Rattle.branch_metrics.specs.declared.soft_decision.ReceivedSymbol.{ReceivedSymbol}
+use Rattle.branch_metrics.specs.Cost.{softly, ReceivedSymbol}
 use Rattle.reader.specs.Cost.{differing}
 use Rattle.reader.specs.Read.{symbols_per_pattern, run_bits}
 use Rattle.bit_packing.specs.Packing.{packed_bytes}

@@ -176,14 +176,14 @@ module _ {wanted : Bool} {start input marks : Input} {output : Output} {stream :
             let b : largest (take f.length own) < 2 = omega (arith, a) in
             simp (eq-eqb _ _ (own_length ∙ sym piece_length), lt-ltb _ _ b)
 
-        -- so it is not refused
         due : receiver_feed_number stream piece (take f.length own) lent ≡ 0
         due =
             let a : 188 * ((length g.bytes % 204 + length piece) / 204) ≤ length lent = omega (arith, room, piece_length, n_within) in
             let b : length piece ≤ 204 * 4294967295 - length g.bytes = omega (arith, piece_length, h.within, c, reception_capacity g.reception) in
             reception_number g.reception piece (take f.length own) lent ∙ simp (marks_good, le-ltb _ _ a, le-ltb _ _ b)
 
-        taken : number ≡ 0
+        -- so it is not refused
+        pub taken : number ≡ 0
         taken = by t
           where
             by : FeedsReceiver stream piece (take f.length own) lent number count next exit → number ≡ 0

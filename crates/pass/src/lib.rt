@@ -2,7 +2,7 @@
 // Where the marks have ended, or there is no input for them, no byte is marked.
 #![tactic(auto)]
 
-ghost use Rattle.std.specs.Prelude.{◌≡◌, false, ◌++◌, ◌+◌, ◌-◌, ◌/◌, ◌≤◌, min, length, take, drop, replicate};
+ghost use Rattle.std.specs.Prelude.{◌≡◌, false, ◌++◌, ◌+◌, ◌-◌, ◌/◌, ◌≤◌, length, take, drop, replicate};
 ghost use Rattle.program_io.specs.Checksum.{no_bytes};
 ghost use Rattle.program_io.specs.Files.{input_trace, input_failed, output_trace, output_failed, Writes};
 ghost use Rattle.report.specs.Text.{report_text};
@@ -31,27 +31,12 @@ pub struct Pass {
     pub ending: Ending,
 }
 
-// The smaller of two numbers.
-fn smaller(capacity: u64, length: usize) -> usize
-    ensures { result ≡ min capacity length }
-{
-    if capacity < length as u64 {
-        capacity as usize
-    } else {
-        length
-    }
-}
-
 // Sets a part of a buffer to 0.
 fn clear(buffer: &mut [u8], from: usize, end: usize)
     requires { (from ≤ end) × (end ≤ length buffer.old) }
     ensures { buffer.new ≡ take from buffer.old ++ replicate (end - from) 0 ++ drop end buffer.old }
 {
-    let mut i = from;
-    while i < end {
-        buffer[i] = 0;
-        i += 1;
-    }
+    buffer[from..end].fill(0);
 }
 
 // Reads the marks of so many bytes to the front of a buffer, with 0 for each byte for which none came.
@@ -60,8 +45,7 @@ fn read_marks(system: &mut System, marks: Input, buffer: &mut [u8], n: usize) ->
     ensures { MarksRead marks n buffer.new result }
 {
     let filled = marks.fill(system, b"marks", &mut buffer[0..n]);
-    let came = filled.length;
-    clear(buffer, came, n);
+    clear(buffer, filled.length, n);
     filled
 }
 
@@ -69,14 +53,12 @@ fn read_marks(system: &mut System, marks: Input, buffer: &mut [u8], n: usize) ->
 fn first_above(marks: &[u8]) -> usize
     ensures { result ≡ first_above marks.now }
 {
-    let mut i: usize = 0;
-    while i < marks.len() {
-        if 1 < marks[i] {
+    for (i, mark) in marks.iter().enumerate() {
+        if 1 < *mark {
             return i;
         }
-        i += 1;
     }
-    i
+    marks.len()
 }
 
 // The block, counted from 0, of a byte that comes so many bytes after those that were taken.
@@ -84,9 +66,7 @@ fn block_of(stream: ReceiverStream, place: usize) -> u64
     requires { (stream.held + place ≤ 1000000) × (stream.receiver.counts.taken ≤ 4294967295) }
     ensures { result ≡ stream.receiver.counts.taken + (stream.held + place) / 204 }
 {
-    let receiver = stream.receiver;
-    let counts = receiver.counts;
-    counts.taken + ((stream.held + place) / 204) as u64
+    stream.receiver.counts.taken + ((stream.held + place) / 204) as u64
 }
 
 // Writes packets where they are wanted.
@@ -149,9 +129,10 @@ pub fn receive_all(
     let mut marks = marks;
     let mut output = output;
     let mut stream = ReceiverStream::new();
+    // A `loop`: it ends where the input does.
     loop {
-        let most = smaller(stream.capacity(), bytes.len());
-        let filled = input.read(system, b"standard input", bytes, most);
+        let most = stream.capacity().min(bytes.len() as u64);
+        let filled = input.read(system, b"standard input", bytes, most as usize);
         let n = filled.length;
         input = filled.input;
         if n == 0 {
@@ -186,9 +167,11 @@ pub fn receive_all(
                 ending: Ending::Refused(block_of(stream, place)),
             };
         }
-        let fed = stream.feed(&bytes[..n], &own[..n], packets);
-        let count = fed.count;
-        output = hand_on(system, output, wanted, packets, count);
+        // The capacity and the marks were tested, and a piece has room for its packets.
+        let Ok(fed) = stream.feed(&bytes[..n], &own[..n], packets) else {
+            unreachable!()
+        };
+        output = hand_on(system, output, wanted, packets, fed.count);
         stream = fed.stream;
         if output.failed() {
             return Pass {
@@ -208,7 +191,6 @@ pub fn write_report(system: &mut System, stream: ReceiverStream, output: Output)
     ensures { Writes output (report_text (stream_report stream)) result }
 {
     let mut text = [0u8; 320];
-    let written = stream.report(&mut text);
-    let n = written.length;
+    let n = stream.report(&mut text).unwrap_or(0);
     output.write_text(system, b"report", &text[..n])
 }

@@ -9,14 +9,14 @@ use crate::system::System;
 use crate::words::{Arguments, Word};
 
 // What a call asks for.
-#[derive(Clone, Copy)]
+#[derive(Clone, Copy, PartialEq, Eq)]
 pub enum Asked {
     Help,
     Version,
     Work,
 }
 
-// How a run ended, with its files as it left them.
+// How a run ended, with its files as it left them. The programs write it out: tests/programs.sh follows each file by the field that it goes to.
 #[derive(Clone, Copy)]
 pub struct Ended {
     pub status: i32,

@@ -5,7 +5,7 @@ use std::fmt;
 use std::fmt::Write;
 use std::io::Error;
 
-// The text of an error, at the front of a buffer.
+// The text of an error, at the front of a buffer: fixed memory.
 #[derive(Drop)]
 pub struct ErrorText {
     bytes: [u8; 256],

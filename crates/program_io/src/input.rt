@@ -1,5 +1,5 @@
 // Files that are read. What fails is said on standard error, by the name that the program gives the file.
-ghost use Rattle.std.specs.Prelude.{◌≡◌, ◌<◌, ◌≤◌, false, length, pos, int_lt};
+ghost use Rattle.std.specs.Prelude.{◌≡◌, ◌<◌, ◌≤◌, false, length, pos, int_lt, IfSome};
 ghost use Rattle.program_io.specs.Files.{input_ended, input_failed, StandardInput, NoInput, OpenedInput, ReadsOnce, ReadsInto, Reads, Fills};
 
 use crate::system::{STDIN, System};
@@ -46,40 +46,36 @@ fn read_once(system: &mut System, fd: i32, buffer: &mut [u8], from: usize, end: 
     Piece { got, length }
 }
 
-// Whether an open file is set to a place.
-fn set_to(system: &mut System, fd: i32, start: u64) -> bool
-    requires { start < 9223372036854775808 }
-{
+// Whether the file that is open is set to a place.
+fn set_to(system: &mut System, start: u64) -> bool {
     if start == 0 {
         return true;
     }
-    system.seek(fd, start) == start as i64
+    system.seek(start) == Some(start)
 }
 
-// The descriptor of the file of this name, set to a place; or -1, which is said. A descriptor of a standard stream is refused: that one was closed,
+// The descriptor of the file of this name, set to a place; or none, which is said. A descriptor of a standard stream is refused: that one was closed,
 // and what is read or written there would be the file.
-fn opened(system: &mut System, path: &[u8], start: u64) -> i32
-    requires { start < 9223372036854775808 }
-    ensures { int_lt result (pos 0) ≡ false → int_lt result (pos 3) ≡ false }
+fn opened(system: &mut System, path: &[u8], start: u64) -> Option<i32>
+    ensures { IfSome result (λ fd. int_lt fd (pos 3) ≡ false) }
 {
     if path.len() == 0 {
         system.say(b"file name: none, or longer than 4095 bytes\n");
-        return -1;
+        return None;
     }
-    let fd = system.open_read(path);
-    if fd < 0 {
+    let Some(fd) = system.open_read(path) else {
         system.fail(path);
-        return -1;
-    }
+        return None;
+    };
     if fd < 3 {
         system.say(b"standard input, output or error is closed\n");
-        return -1;
+        return None;
     }
-    if !set_to(system, fd, start) {
+    if !set_to(system, start) {
         system.fail(path);
-        return -1;
+        return None;
     }
-    fd
+    Some(fd)
 }
 
 impl Input {
@@ -124,17 +120,26 @@ impl Input {
     {
         let mut path = io::buffer();
         let n = system.arg(argument, &mut path);
-        let fd = opened(system, &path[..n], start);
-        let origin = Origin {
-            fd,
-            argument,
-            start,
-        };
         let trace = no_bytes();
-        Input {
-            origin,
-            trace,
-            last: if fd < 0 { -1 } else { 1 },
+        match opened(system, &path[..n], start) {
+            Some(fd) => Input {
+                origin: Origin {
+                    fd,
+                    argument,
+                    start,
+                },
+                trace,
+                last: 1,
+            },
+            None => Input {
+                origin: Origin {
+                    fd: -1,
+                    argument,
+                    start,
+                },
+                trace,
+                last: -1,
+            },
         }
     }
 
@@ -214,6 +219,7 @@ impl Input {
     {
         let mut input = self;
         let mut done: usize = 0;
+        // A `while`: a read brings as many bytes as it will.
         while done < buffer.len() {
             let end = buffer.len();
             let more = input.read_into(system, name, buffer, done, end);

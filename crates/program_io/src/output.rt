@@ -6,6 +6,7 @@ ghost use Rattle.program_io.specs.Files.{output_failed, FreshOutput, Loses, Writ
 use crate::system::{STDERR, STDOUT, System};
 use crate::trace::{Trace, no_bytes, traced};
 
+// An output stays a value where a write failed, and its flags are asked for: no Result.
 // A file that is written: its descriptor, the checksum of the bytes that it took, whether a write failed or took too little, or closing it failed, and
 // whether it is closed.
 #[derive(Clone, Copy)]
@@ -133,6 +134,7 @@ impl Output {
         if output.failed {
             return output;
         }
+        // A `while`: a write takes as many bytes as it will.
         while done < bytes.len() {
             let put = output.write_from(system, name, bytes, done);
             let n = put.length;

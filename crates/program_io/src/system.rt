@@ -1,6 +1,7 @@
 // What the programs ask of the system: their arguments, the standard streams, and one file that an argument names. A number stands for each file, as
 // the system has it: 0, 1 and 2 for the standard streams. No contract speaks of what it holds.
-ghost use Rattle.std.specs.Prelude.{length};
+ghost use Rattle.std.specs.Prelude.{◌≡◌, length, pos};
+ghost use Rattle.std.specs.Process.{exit_status};
 ghost use Rattle.io.specs.Counts.{IsPrefixLen};
 ghost use Rattle.program_io.specs.Moving.{Moved, Status};
 
@@ -29,12 +30,10 @@ pub struct System {
 
 // Whether an error says that there is nothing to sync: what is written to is a pipe, a terminal or a device, or cannot be written at all.
 fn has_no_sync(error: Error) -> bool {
-    match error.kind() {
-        ErrorKind::InvalidInput => true,
-        ErrorKind::Unsupported => true,
-        ErrorKind::ReadOnlyFilesystem => true,
-        _ => false,
-    }
+    matches!(
+        error.kind(),
+        ErrorKind::InvalidInput | ErrorKind::Unsupported | ErrorKind::ReadOnlyFilesystem
+    )
 }
 
 // The numbers of two errors: no file of that number is open, and a name that is no UTF-8, which the library opens no file by.
@@ -43,7 +42,11 @@ const EBADF: i32 = 9;
 const EILSEQ: i32 = 84;
 
 // The status that a program ends with: 0, 1 or 2.
-pub fn exit_code(status: i32) -> ExitCode {
+pub fn exit_code(status: i32) -> ExitCode
+    ensures zero { status ≡ pos 0 → exit_status result ≡ 0 }
+    ensures one { status ≡ pos 1 → exit_status result ≡ 1 }
+    ensures two { status ≡ pos 2 → exit_status result ≡ 2 }
+{
     match status {
         0 => ExitCode::SUCCESS,
         1 => ExitCode::FAILURE,
@@ -76,49 +79,48 @@ impl System {
         let mut none = [0u8; 1];
         for i in 0..usize::MAX {
             match self.rt.arg(i, &mut none) {
-                Ok(_) => {}
-                Err(FillError::TooLong) => {}
+                Ok(_) | Err(FillError::TooLong) => {}
                 Err(FillError::NotPresent) => return i,
             }
         }
         usize::MAX
     }
 
-    // Opens a file for reading, and gives its number, or -1.
-    pub(crate) fn open_read(&mut self, path: &[u8]) -> i32 {
+    // Opens a file for reading, and gives its number. Where that fails, `fail` says why.
+    pub(crate) fn open_read(&mut self, path: &[u8]) -> Option<i32> {
         let Ok(name) = std::str::from_utf8(path) else {
             self.error = Error::from_raw_os_error(EILSEQ);
-            return -1;
+            return None;
         };
         match File::open(&self.rt, name) {
             Ok(file) => {
                 let fd = file.as_raw_fd();
                 self.named = Some(file);
-                fd
+                Some(fd)
             }
             Err(e) => {
                 self.error = e;
-                -1
+                None
             }
         }
     }
 
-    // Sets the file of this number to a place, and gives the place, or -1.
-    pub(crate) fn seek(&mut self, fd: i32, to: u64) -> i64 {
+    // Sets the file that is open to a place, and gives the place. Where that fails, `fail` says why.
+    pub(crate) fn seek(&mut self, to: u64) -> Option<u64> {
         let Some(file) = &mut self.named else {
             self.error = Error::from_raw_os_error(EBADF);
-            return -1;
+            return None;
         };
         match file.seek(SeekFrom::Start(to)) {
-            Ok(at) => at.cast_signed(),
+            Ok(at) => Some(at),
             Err(e) => {
                 self.error = e;
-                -1
+                None
             }
         }
     }
 
-    // Reads once, and gives how many bytes came, 0 at the end, or -1.
+    // Reads once, and gives how many bytes came, 0 at the end, or -1: the definitions in specs/Moving.antt speak of this number.
     pub(crate) fn read(&mut self, fd: i32, buffer: &mut [u8]) -> isize
         ensures { Moved (length buffer.old) result }
     {
@@ -139,7 +141,7 @@ impl System {
         }
     }
 
-    // Writes once, and gives how many bytes were taken, or -1.
+    // Writes once, and gives how many bytes were taken, or -1, as `read`.
     pub(crate) fn write(&mut self, fd: i32, bytes: &[u8]) -> isize
         ensures { Moved (length bytes.now) result }
     {
@@ -160,6 +162,7 @@ impl System {
     // Writes text to standard error with as many writes as it takes. A write that fails or takes nothing ends it.
     pub(crate) fn say(&mut self, text: &[u8]) {
         let mut done: usize = 0;
+        // A `while`: a write takes as many bytes as it will.
         while done < text.len() {
             let rest = &text[done..];
             let n = io::count(self.write(STDERR, rest), rest);
@@ -180,7 +183,7 @@ impl System {
         self.say(b"\n");
     }
 
-    // Has the system write out what it holds of standard output, and gives 0, or -1 where that failed. What cannot be written out so, as a pipe or a
+    // Has the system write out what it holds of standard output, and gives 0, or -1 where that failed, as specs/Moving.antt has it. What cannot be written out so, as a pipe or a
     // terminal, has nothing to write out. The library has no call that says what closing a file answered.
     pub(crate) fn close(&mut self, fd: i32) -> i32
         ensures { Status result }

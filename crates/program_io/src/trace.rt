@@ -40,10 +40,8 @@ pub fn traced(trace: Trace, bytes: &[u8]) -> Trace
     ensures { result ≡ Checksum·traced trace bytes.now }
 {
     let mut after = trace;
-    let mut i: usize = 0;
-    while i < bytes.len() {
-        after = step(after, bytes[i]);
-        i += 1;
+    for &byte in bytes {
+        after = step(after, byte);
     }
     after
 }

@@ -12,9 +12,8 @@ pub struct Arguments {
 
 impl Arguments {
     pub fn new(system: &mut System) -> Arguments {
-        let n = system.arg_count();
         Arguments {
-            count: if n == 0 { 0 } else { n - 1 },
+            count: system.arg_count().saturating_sub(1),
         }
     }
 
@@ -26,6 +25,7 @@ impl Arguments {
 }
 
 // An argument that is a word of at most 32 bytes. Of a longer one the first 32 are kept, and it counts as empty, as one that is not there.
+// An array with a length: fixed memory, and a word may be copied.
 #[derive(Clone, Copy)]
 pub struct Word {
     argument: usize,
@@ -33,8 +33,8 @@ pub struct Word {
     length: usize,
 }
 
-// What a word says: a number up to a limit, one beyond it, or none.
-#[derive(Clone, Copy)]
+// What a word says: a number up to a limit, one beyond it, or none. A Result with an enum of the last two would name no more.
+#[derive(Clone, Copy, PartialEq, Eq)]
 pub enum Parsed {
     Number(u64),
     Large,
@@ -59,16 +59,14 @@ impl Word {
     pub fn is(self, text: &[u8]) -> bool
         ensures { result ≡ same_bytes (word_bytes self) text.now }
     {
-        let bytes = self.bytes;
-        is_text(bytes, self.length, text)
+        is_text(self.bytes, self.length, text)
     }
 
     // Whether the word begins with a dash. It is an option then, and names no file; a file of such a name is ./-NAME.
     pub fn is_option(self) -> bool
         ensures { result ≡ word_is_option self }
     {
-        let bytes = self.bytes;
-        bytes[0] == b'-'
+        self.bytes[0] == b'-'
     }
 
     // The number in decimal digits that the word is.
@@ -76,8 +74,7 @@ impl Word {
         requires { most < 1000000000000000000 }
         ensures { result ≡ parsed (word_bytes self) most }
     {
-        let bytes = self.bytes;
-        parse_bytes(bytes, self.length, most)
+        parse_bytes(self.bytes, self.length, most)
     }
 }
 
@@ -87,23 +84,7 @@ fn is_text(bytes: [u8; 32], length: usize, text: &[u8]) -> bool
     if 32 < length {
         return text.len() == 0;
     }
-    same_bytes(&bytes[..length], text)
-}
-
-fn same_bytes(one: &[u8], other: &[u8]) -> bool
-    ensures { result ≡ same_bytes one.now other.now }
-{
-    if one.len() != other.len() {
-        return false;
-    }
-    let mut i: usize = 0;
-    while i < one.len() {
-        if one[i] != other[i] {
-            return false;
-        }
-        i += 1;
-    }
-    true
+    &bytes[..length] == text
 }
 
 fn parse_bytes(bytes: [u8; 32], length: usize, most: u64) -> Parsed
@@ -124,7 +105,7 @@ fn appended(value: u64, digit: u8, most: u64) -> u64
     if most < value {
         value
     } else {
-        10 * value + digit as u64
+        10 * value + u64::from(digit)
     }
 }
 
@@ -136,9 +117,7 @@ fn parse_number(word: &[u8], most: u64) -> Parsed
         return Parsed::Malformed;
     }
     let mut value: u64 = 0;
-    let mut i: usize = 0;
-    while i < word.len() {
-        let character = word[i];
+    for &character in word {
         if character < 48 {
             return Parsed::Malformed;
         }
@@ -146,7 +125,6 @@ fn parse_number(word: &[u8], most: u64) -> Parsed
             return Parsed::Malformed;
         }
         value = appended(value, character - 48, most);
-        i += 1;
     }
     if most < value {
         return Parsed::Large;

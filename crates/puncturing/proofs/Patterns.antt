@@ -38,6 +38,15 @@ pub record Repeating (is qs l : List ℕ) (len from turns : ℕ) (output₀ : Li
   pub size : length output ≡ length output₀
   pub symbols : placed output k (patterns_symbols is qs l len n left) ≡ placed output₀ at (patterns_symbols is qs l len from turns)
 
+pub repeating_next : {is qs l : List ℕ} {len from turns : ℕ} {output₀ : List ℕ} {at : ℕ} {output : List ℕ} (t : ℕ)
+    → Repeating is qs l len from turns output₀ at output (from + t * len + len) (at + t * length is + length is) (turns - t - 1)
+    → Repeating is qs l len from turns output₀ at output (from + (t + 1) * len) (at + (t + 1) * length is) (turns - (t + 1))
+repeating_next {is} {len = len} {from} {turns} {at = at} t g =
+    let bit : from + (t + 1) * len ≡ from + t * len + len = omega arith in
+    let place : at + (t + 1) * length is ≡ at + t * length is + length is = omega arith in
+    let left : turns - (t + 1) ≡ turns - t - 1 = omega arith in
+    rw (bit, place, left) g
+
 pub repeating_more : {is qs l : List ℕ} {len from turns : ℕ} {output₀ : List ℕ} {at : ℕ} {output : List ℕ} {n k left : ℕ}
     → Repeating is qs l len from turns output₀ at output n k left → {output' : List ℕ} → 0 < left → length is ≡ length qs
     → at + turns * length is ≤ length output₀ → output' ≡ placed output k (pattern_symbols is qs l n)
@@ -61,15 +70,6 @@ repeating_more {is} {qs} {l} {len} {from} {turns} {output₀} {at} {output} {n} 
           ∙ ap (λ (m : ℕ). placed output k (patterns_symbols is qs l len n m)) (sym one)
           ∙ g.symbols;
     }
-
--- what a turn needs
-pub repeating_bit : {is qs l : List ℕ} {len from turns : ℕ} {output₀ : List ℕ} {at : ℕ} {output : List ℕ} {n k left : ℕ}
-    → Repeating is qs l len from turns output₀ at output n k left → 0 < left → n + len ≤ 1632
-repeating_bit {len = len} {left = left} g h = omega (arith, g.bit, turn left len h)
-
-pub repeating_fits : {is qs l : List ℕ} {len from turns : ℕ} {output₀ : List ℕ} {at : ℕ} {output : List ℕ} {n k left : ℕ}
-    → Repeating is qs l len from turns output₀ at output n k left → 0 < left → at + turns * length is ≤ length output₀ → k + length is ≤ length output
-repeating_fits {is} {left = left} g h fits = omega (arith, g.end, g.size, turn left (length is) h)
 
 pub repeating_end : {is qs l : List ℕ} {len from turns : ℕ} {output₀ : List ℕ} {at : ℕ} {output : List ℕ} {n k left : ℕ}
     → Repeating is qs l len from turns output₀ at output n k left → left ≡ 0

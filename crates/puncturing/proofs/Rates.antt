@@ -43,32 +43,30 @@ table r h = record {
       under (1632 + pattern_length r) (q_bits r) (computed.below_at (λ r. all_under (1632 + pattern_length r) (q_bits r)) qpsk_count tt r h) (omega arith);
 }
 
--- what a run of whole patterns asks for
-abbrev Asked : ℕ → List ℕ → List ℕ → ℕ → ℕ → ℕ → Type 0
-Asked r l output from turns at =
+-- what a run of whole patterns asks for, by the table of a rate and the length of its pattern
+abbrev Asked : ℕ → ℕ → List ℕ → List ℕ → ℕ → ℕ → ℕ → Type 0
+Asked r len l output from turns at =
     (Bits l)
-    × (length l ≡ 3264)
     × (length (i_bits r) ≤ 4)
     × (length (i_bits r) ≡ length (q_bits r))
-    × ((j : ℕ) → get_or (i_bits r) j 0 < 1632 + pattern_length r)
-    × ((j : ℕ) → get_or (q_bits r) j 0 < 1632 + pattern_length r)
-    × (from + turns * pattern_length r ≤ 1632)
+    × ((j : ℕ) → get_or (i_bits r) j 0 < 1632 + len)
+    × ((j : ℕ) → get_or (q_bits r) j 0 < 1632 + len)
+    × (from + turns * len ≤ 1632)
     × (at + turns * length (i_bits r) ≤ length output)
 
-pub asked : (k r : ℕ) (l output : List ℕ) (from turns at : ℕ) → r ≡ k → r < qpsk_count → Bits l → length l ≡ 3264 → from + turns * pattern_length r ≤ 1632
-    → at + turns * length (i_bits r) ≤ length output → Asked k l output from turns at
-asked k r l output from turns at e h b n f g =
+pub asked : (k r len : ℕ) (l output : List ℕ) (from turns at : ℕ) → r ≡ k → len ≡ pattern_length r → r < qpsk_count → Bits l
+    → from + turns * pattern_length r ≤ 1632 → at + turns * length (i_bits r) ≤ length output → Asked k len l output from turns at
+asked k r len l output from turns at e m h b f g =
     let t = table r h in
-    subst (λ (r : ℕ). Asked r l output from turns at) e (b, n, t.few, t.same, t.i_under, t.q_under, f, g)
+    subst (λ (s : ℕ). Asked s len l output from turns at) e
+    (subst (λ (d : ℕ). Asked r d l output from turns at) (sym m) (b, t.few, t.same, t.i_under, t.q_under, f, g))
 
 -- what it gives
-abbrev Given : ℕ → List ℕ → List ℕ → List ℕ → ℕ → ℕ → ℕ → ℕ → Type 0
-Given r l output output' from turns at k =
-    (k ≡ at + turns * length (i_bits r)) × (output' ≡ placed output at (patterns_symbols (i_bits r) (q_bits r) l (pattern_length r) from turns))
+abbrev Given : ℕ → ℕ → List ℕ → List ℕ → List ℕ → ℕ → ℕ → ℕ → ℕ → Type 0
+Given r len l output output' from turns at k =
+    (k ≡ at + turns * length (i_bits r)) × (output' ≡ placed output at (patterns_symbols (i_bits r) (q_bits r) l len from turns))
 
-pub given : (k r : ℕ) (l output output' : List ℕ) (from turns at n : ℕ) → r ≡ k → Given k l output output' from turns at n → Given r l output output' from turns at n
-given k r l output output' from turns at n e g = subst (λ (r : ℕ). Given r l output output' from turns at n) (sym e) g
-
--- the last of the five rates
-pub four : (r : ℕ) → r < qpsk_count → (r ≡ 0 → ⊥) → (r ≡ 1 → ⊥) → (r ≡ 2 → ⊥) → (r ≡ 3 → ⊥) → r ≡ 4
-four r h a b c d = omega arith
+pub given : (k r len : ℕ) (l output output' : List ℕ) (from turns at n : ℕ) → r ≡ k → len ≡ pattern_length r → Given k len l output output' from turns at n
+    → Given r (pattern_length r) l output output' from turns at n
+given k r len l output output' from turns at n e m g =
+    subst (λ (d : ℕ). Given r d l output output' from turns at n) m (subst (λ (s : ℕ). Given s len l output output' from turns at n) (sym e) g)

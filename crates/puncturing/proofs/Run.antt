@@ -1,6 +1,7 @@
 -- The puncturing of a run of coded bits, as a loop goes through it.
 -- Assumes nothing.
-use mathlib.Core.Path.{◌≡◌, refl, ap, sym, ◌∙◌}
+use Rattle.std.specs.Prelude.{Option, None, Some}
+use mathlib.Core.Path.{◌≡◌, ap, sym, ◌∙◌}
 use mathlib.Core.List.{List, [], ◌∷◌, ◌++◌}
 use Prim.Native.Nat.{ℕ, suc, ◌+◌, ◌-◌, ◌≤◌, ◌<◌}
 use native.Mathlib.Numerals.{add-one}
@@ -8,15 +9,13 @@ use native.Mathlib.Omega.{arith}
 use lib.ListN.{length, get_or, drop, set, length-drop}
 use lib.Seq.{drop-cons}
 use Rattle.common.specs.Lists.{placed}
-use Rattle.common.proofs.Written.{Written, written_none, written_more, written_length}
+use Rattle.common.proofs.Written.{Written, written_more, written_length}
 use Rattle.common.proofs.Outputs.{placed_all}
 use Rattle.convolutional_code.specs.Bits.{Bits}
 use Rattle.convolutional_code.proofs.Bits.{bits_at}
 use Rattle.puncturing.specs.Mode.{qpsk_count}
 use Rattle.puncturing.specs.Step.{pattern_length, place_next, held_count, symbol_list, punctured, held_after}
 use Rattle.puncturing.specs.Run.{punctured_symbols, pattern_place_after, held_behind, progress}
-use Rattle.puncturing.specs.declared.Symbol.{Symbol}
-use Rattle.puncturing.specs.declared.Symbol.TheVariants.{None, One}
 use Rattle.puncturing.specs.declared.Progress.{Progress}
 use Rattle.puncturing.proofs.Places.{up}
 use Rattle.puncturing.proofs.Steps.{next_lt, held_in_range}
@@ -33,21 +32,6 @@ pub record Going (r p₀ h₀ : ℕ) (l : List ℕ) (from to : ℕ) (output₀ :
   pub symbols : drop done (punctured_symbols r p₀ h₀ l from (to - from)) ≡ punctured_symbols r p h l n (to - n)
   pub placing : pattern_place_after r p₀ (to - from) ≡ pattern_place_after r p (to - n)
   pub behind : held_behind r p₀ h₀ l from (to - from) ≡ held_behind r p h l n (to - n)
-
-pub going_start : {r p h : ℕ} {l : List ℕ} {from to : ℕ} {output : List ℕ} {at : ℕ} → r < qpsk_count → p < pattern_length r → h ≤ held_count r p → from ≤ to
-    → at + length (punctured_symbols r p h l from (to - from)) ≤ length output → Going r p h l from to output at output p h at from
-going_start hr hp hh hn output = record {
-  rate = hr;
-  place = hp;
-  held = hh;
-  within = hn;
-  done = 0;
-  counted = omega arith;
-  written = written_none output;
-  symbols = refl;
-  placing = refl;
-  behind = refl;
-}
 
 module _ {r p₀ h₀ : ℕ} {l : List ℕ} {from to : ℕ} {output₀ : List ℕ} {at : ℕ} {output : List ℕ} {p h count n : ℕ} (g : Going r p₀ h₀ l from to output₀ at output p h count n) (bits : Bits l) (k : n < to) where
   all : List ℕ
@@ -72,9 +56,9 @@ module _ {r p₀ h₀ : ℕ} {l : List ℕ} {from to : ℕ} {output₀ : List �
       ∙ ap (punctured_symbols r p h l n) left
       ∙ ap (λ (m : ℕ). symbol_list (punctured r p x y h) ++ punctured_symbols r (place_next r p) (held_after r p x y h) l m (to - (n + 1))) (sym (add-one n))
 
-  ahead_one : {v : ℕ} → One v ≡ punctured r p (get_or l n 0) (get_or l (1632 + n) 0) h → drop g.done all ≡ v ∷ rest
+  ahead_one : {v : ℕ} → Some v ≡ punctured r p (get_or l n 0) (get_or l (1632 + n) 0) h → drop g.done all ≡ v ∷ rest
   unfolding x y
-  ahead_one s = ahead ∙ ap (λ (t : Symbol). symbol_list t ++ rest) (sym s)
+  ahead_one s = ahead ∙ ap (λ (t : Option ℕ). symbol_list t ++ rest) (sym s)
 
   -- the state after the bit, whether or not it completes a symbol
   stepped : {p' h' count' : ℕ} {output' : List ℕ} (done' : ℕ) → p' ≡ place_next r p → h' ≡ held_after r p (get_or l n 0) (get_or l (1632 + n) 0) h
@@ -100,19 +84,19 @@ module _ {r p₀ h₀ : ℕ} {l : List ℕ} {from to : ℕ} {output₀ : List �
   pub going_none : {p' h' : ℕ} → p' ≡ place_next r p → h' ≡ held_after r p (get_or l n 0) (get_or l (1632 + n) 0) h
       → None ≡ punctured r p (get_or l n 0) (get_or l (1632 + n) 0) h → Going r p₀ h₀ l from to output₀ at output p' h' count (n + 1)
   unfolding x y
-  going_none ep eh s = stepped g.done ep eh g.counted g.written (ahead ∙ ap (λ (t : Symbol). symbol_list t ++ rest) (sym s))
+  going_none ep eh s = stepped g.done ep eh g.counted g.written (ahead ∙ ap (λ (t : Option ℕ). symbol_list t ++ rest) (sym s))
 
-  output_for_lem : {v : ℕ} → One v ≡ punctured r p (get_or l n 0) (get_or l (1632 + n) 0) h → g.done < length (punctured_symbols r p₀ h₀ l from (to - from))
+  output_for_lem : {v : ℕ} → Some v ≡ punctured r p (get_or l n 0) (get_or l (1632 + n) 0) h → g.done < length (punctured_symbols r p₀ h₀ l from (to - from))
   unfolding all
   output_for_lem s =
       let e : length all - g.done ≡ suc (length rest) = sym (length-drop g.done all) ∙ ap length (ahead_one s) in
       omega arith
 
-  pub going_fits : {v : ℕ} → One v ≡ punctured r p (get_or l n 0) (get_or l (1632 + n) 0) h → count < length output
+  pub going_fits : {v : ℕ} → Some v ≡ punctured r p (get_or l n 0) (get_or l (1632 + n) 0) h → count < length output
   going_fits s = omega (arith, output_for_lem s, g.counted, g.written.output, written_length g.written)
 
   pub going_one : {p' h' v : ℕ} → p' ≡ place_next r p → h' ≡ held_after r p (get_or l n 0) (get_or l (1632 + n) 0) h
-      → One v ≡ punctured r p (get_or l n 0) (get_or l (1632 + n) 0) h → Going r p₀ h₀ l from to output₀ at (set output count v) p' h' (count + 1) (n + 1)
+      → Some v ≡ punctured r p (get_or l n 0) (get_or l (1632 + n) 0) h → Going r p₀ h₀ l from to output₀ at (set output count v) p' h' (count + 1) (n + 1)
   unfolding all
   going_one {p'} {h'} {v} ep eh s =
       let split : get_or all g.done 0 ∷ drop (suc g.done) all ≡ v ∷ rest

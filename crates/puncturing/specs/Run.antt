@@ -1,20 +1,20 @@
 -- The puncturing of a run of coded bits, where X of bit n is at n of a list and Y at 1632 + n.
 -- Assumes nothing.
-use Rattle.std.specs.Prelude.{List, [], ◌∷◌, ◌++◌, map, ℕ, zero, suc, ◌+◌, ◌-◌, ◌*◌, length, get_or}
+use Rattle.std.specs.Prelude.{List, [], ◌∷◌, ◌++◌, map, ℕ, zero, suc, ◌+◌, ◌-◌, ◌*◌, length, get_or, Option, None, Some}
 use Rattle.puncturing.specs.Mode.{CodedBit, X, Y, mode_of}
 use Rattle.puncturing.specs.Step.{place_next, symbol_list, punctured, held_after}
-use Rattle.puncturing.specs.declared.Symbol.{Symbol}
-use Rattle.puncturing.specs.declared.Symbol.TheVariants.{None, One}
+use Rattle.puncturing.specs.declared.tables.Completion.{Completion}
+use Rattle.puncturing.specs.declared.tables.Completion.TheVariants.{Nothing, XY, HeldX, HeldY, YX}
 use Rattle.puncturing.specs.declared.Punctured.{Punctured}
 use Rattle.puncturing.specs.declared.Progress.{Progress}
 
--- the symbol that a bit completes: 0 none, 1 (X,Y), 2 the held I with X, 3 the held I with Y, 4 (Y,X)
-abbrev pub by_kind : ℕ → ℕ → ℕ → ℕ → Symbol
-by_kind zero x y held = None
-by_kind (suc zero) x y held = One (2 * x + y)
-by_kind (suc (suc zero)) x y held = One (2 * held + x)
-by_kind (suc (suc (suc zero))) x y held = One (2 * held + y)
-by_kind (suc (suc (suc (suc k)))) x y held = One (2 * y + x)
+-- the symbol that a bit completes
+abbrev pub by_kind : Completion → ℕ → ℕ → ℕ → Option ℕ
+by_kind Nothing x y held = None
+by_kind XY x y held = Some (2 * x + y)
+by_kind HeldX x y held = Some (2 * held + x)
+by_kind HeldY x y held = Some (2 * held + y)
+by_kind YX x y held = Some (2 * y + x)
 
 abbrev pub puncture_step : ℕ → ℕ → ℕ → ℕ → ℕ → Punctured
 puncture_step rate place held x y = record {

@@ -1,11 +1,9 @@
 -- The puncturing of one bit, at a place of a mode's pattern.
 -- Clause: document 01, "Inner code".
 -- Assumes nothing.
-use Rattle.std.specs.Prelude.{List, [], ◌∷◌, map, ℕ, zero, suc, ◌+◌, ◌%◌, eqb, length, get_or}
+use Rattle.std.specs.Prelude.{List, [], ◌∷◌, map, ℕ, zero, suc, ◌+◌, ◌%◌, eqb, length, get_or, Option, None, Some}
 use Rattle.common.specs.Choice.{pick}
 use Rattle.puncturing.specs.Mode.{CodedBit, X, Y, Mode, mode_of, completed, begun, binary}
-use Rattle.puncturing.specs.declared.Symbol.{Symbol}
-use Rattle.puncturing.specs.declared.Symbol.TheVariants.{None, One}
 
 abbrev pub next_by : Mode → ℕ → ℕ
 next_by m place = (place + 1) % m.bits
@@ -19,16 +17,16 @@ abbrev pub value_at : ℕ → ℕ → ℕ → ℕ → CodedBit → ℕ
 value_at i x y held (X j) = pick (eqb j i) x held
 value_at i x y held (Y j) = pick (eqb j i) y held
 
-abbrev pub symbol_of : List ℕ → Symbol
+abbrev pub symbol_of : List ℕ → Option ℕ
 symbol_of [] = None
-symbol_of (s ∷ ss) = One s
+symbol_of (s ∷ ss) = Some s
 
-abbrev pub symbol_list : Symbol → List ℕ
+abbrev pub symbol_list : Option ℕ → List ℕ
 symbol_list None = []
-symbol_list (One s) = s ∷ []
+symbol_list (Some s) = s ∷ []
 
 -- the symbol that the bit at a place completes
-unfoldable pub punctured_by : Mode → ℕ → ℕ → ℕ → ℕ → Symbol
+unfoldable pub punctured_by : Mode → ℕ → ℕ → ℕ → ℕ → Option ℕ
 punctured_by m place x y held =
     symbol_of (map (λ (s : List CodedBit). binary (map (value_at (place + 1) x y held) s)) (completed m (place + 1)))
 
@@ -55,7 +53,7 @@ place_next rate = next_by (mode_of rate)
 abbrev pub held_count : ℕ → ℕ → ℕ
 held_count rate = held_count_by (mode_of rate)
 
-abbrev pub punctured : ℕ → ℕ → ℕ → ℕ → ℕ → Symbol
+abbrev pub punctured : ℕ → ℕ → ℕ → ℕ → ℕ → Option ℕ
 punctured rate = punctured_by (mode_of rate)
 
 abbrev pub held_after : ℕ → ℕ → ℕ → ℕ → ℕ → ℕ

@@ -13,27 +13,23 @@ mod tables;
 mod whole;
 
 use code_tables::{LONGEST_PATTERN, MODES, PATTERN_LENGTHS};
-use tables::{COMPLETED, COUNTS, HELD};
+use tables::{COMPLETED, COUNTS, Completion, HELD};
 use whole::whole_patterns;
 
-// Which modes are sent: 1 where one is.
-const SENT: [u8; MODES] = [1, 1, 1, 1, 0, 1];
+// X of each bit of a block, and then Y of each. That each is a bit stays a fact beside it: the loops count with the bytes, so bools would be turned into numbers
+// at each use.
+type Coded = [u8; 3264];
 
-// What a bit completes: no symbol yet, or one with this number.
-#[derive(Clone, Copy)]
-pub enum Symbol {
-    None,
-    One(u8),
-}
+// Which modes are sent.
+const SENT: [bool; MODES] = [true, true, true, true, false, true];
 
 // Whether a mode is sent. No other number is one.
+// A rate stays a number, and so does a place of its pattern: the calls of the library take any and refuse those that are none, and the definitions count with
+// them. `place` and `held` come apart too, since they are two bytes of a coder's state, and the bounds of one are asked where the other plays no part.
 pub fn is_sent(rate: u8) -> bool
     ensures { result ≡ (mode_of rate).sent }
 {
-    if rate as usize >= MODES {
-        return false;
-    }
-    SENT[rate as usize] == 1
+    (rate as usize) < MODES && SENT[rate as usize]
 }
 
 pub fn pattern_length(rate: u8) -> u8
@@ -65,11 +61,24 @@ pub fn block_count(rate: u8, place: u8) -> u16
     COUNTS[cell(rate, place)]
 }
 
-fn completed_at(rate: u8, place: u8) -> u8
+fn completed_at(rate: u8, place: u8) -> Completion
     requires { (rate < mode_count) × (place < pattern_length rate) }
     ensures { (x y held : ℕ) → punctured rate place x y held ≡ by_kind result x y held }
 {
     COMPLETED[cell(rate, place)]
+}
+
+fn completed(completion: Completion, x: u8, y: u8, held: u8) -> Option<u8>
+    requires { (x < 2) × (y < 2) × (held < 2) }
+    ensures { result ≡ by_kind completion x y held }
+{
+    match completion {
+        Completion::Nothing => None,
+        Completion::XY => Some(2 * x + y),
+        Completion::HeldX => Some(2 * held + x),
+        Completion::HeldY => Some(2 * held + y),
+        Completion::YX => Some(2 * y + x),
+    }
 }
 
 fn next_place(rate: u8, place: u8) -> u8
@@ -83,7 +92,8 @@ fn next_place(rate: u8, place: u8) -> u8
 pub struct Punctured {
     pub place: u8,
     pub held: u8,
-    pub symbol: Symbol,
+    // What the bit completes: no symbol yet, or one with this number.
+    pub symbol: Option<u8>,
 }
 
 // X and Y of one bit.
@@ -93,39 +103,11 @@ pub fn puncture(rate: u8, place: u8, held: u8, x: u8, y: u8) -> Punctured
 {
     let next = next_place(rate, place);
     let kept = y * held_count(rate, next);
-    let kind = completed_at(rate, place);
-    if kind == 0 {
-        return Punctured {
-            place: next,
-            held: kept,
-            symbol: Symbol::None,
-        };
-    }
-    if kind == 1 {
-        return Punctured {
-            place: next,
-            held: kept,
-            symbol: Symbol::One(2 * x + y),
-        };
-    }
-    if kind == 2 {
-        return Punctured {
-            place: next,
-            held: kept,
-            symbol: Symbol::One(2 * held + x),
-        };
-    }
-    if kind == 3 {
-        return Punctured {
-            place: next,
-            held: kept,
-            symbol: Symbol::One(2 * held + y),
-        };
-    }
+    let completion = completed_at(rate, place);
     Punctured {
         place: next,
         held: kept,
-        symbol: Symbol::One(2 * y + x),
+        symbol: completed(completion, x, y, held),
     }
 }
 
@@ -137,48 +119,38 @@ pub struct Progress {
     pub count: usize,
 }
 
-// Bits from .. to, one by one, into an output that has space for their symbols from at on.
+// Bits from .. to, one by one, from where the puncturing stands, into an output that has space for their symbols.
 fn puncture_bits(
     rate: u8,
-    place: u8,
-    held: u8,
-    coded: &[u8],
+    start: Progress,
+    coded: &Coded,
     from: usize,
     to: usize,
     output: &mut [u8],
-    at: usize,
 ) -> Progress
     requires { (rate < qpsk_count)
-        × (place < pattern_length rate)
-        × (held ≤ held_count rate place)
+        × (start.place < pattern_length rate)
+        × (start.held ≤ held_count rate start.place)
         × (Bits coded.now)
-        × (length coded.now ≡ 3264)
         × (from ≤ to)
         × (to ≤ 1632)
-        × (at + length (punctured_symbols rate place held coded.now from (to - from)) ≤ length output.old) }
-    ensures { (result ≡ progress rate place held coded.now from (to - from) at)
-        × (output.new ≡ placed output.old at (punctured_symbols rate place held coded.now from (to - from))) }
+        × (start.count + length (punctured_symbols rate start.place start.held coded.now from (to - from)) ≤ length output.old) }
+    ensures { (result ≡ progress rate start.place start.held coded.now from (to - from) start.count)
+        × (output.new ≡ placed output.old start.count (punctured_symbols rate start.place start.held coded.now from (to - from))) }
 {
-    let mut p = place;
-    let mut i = held;
-    let mut count = at;
-    let mut n = from;
-    while n < to {
-        let punctured = puncture(rate, p, i, coded[n], coded[1632 + n]);
-        let symbol = punctured.symbol;
-        if let Symbol::One(v) = symbol {
-            output[count] = v;
+    let mut place = start.place;
+    let mut held = start.held;
+    let mut count = start.count;
+    for n in from..to {
+        let punctured = puncture(rate, place, held, coded[n], coded[1632 + n]);
+        if let Some(symbol) = punctured.symbol {
+            output[count] = symbol;
             count += 1;
         }
-        p = punctured.place;
-        i = punctured.held;
-        n += 1;
+        place = punctured.place;
+        held = punctured.held;
     }
-    Progress {
-        place: p,
-        held: i,
-        count,
-    }
+    Progress { place, held, count }
 }
 
 // X and Y of each bit of a block: bit by bit to the start of a pattern, then whole patterns up to tail, then the rest bit by bit.
@@ -186,7 +158,7 @@ fn puncture_parts(
     rate: u8,
     place: u8,
     held: u8,
-    coded: &[u8],
+    coded: &Coded,
     head: usize,
     turns: usize,
     tail: usize,
@@ -196,7 +168,6 @@ fn puncture_parts(
         × (place < pattern_length rate)
         × (held ≤ held_count rate place)
         × (Bits coded.now)
-        × (length coded.now ≡ 3264)
         × (pattern_place_after rate place head ≡ 0)
         × (tail ≡ head + turns * pattern_length rate)
         × (tail ≤ 1632)
@@ -204,18 +175,27 @@ fn puncture_parts(
     ensures { (result ≡ progress rate place held coded.now 0 1632 0)
         × (output.new ≡ placed output.old 0 (punctured_symbols rate place held coded.now 0 1632)) }
 {
-    let first = puncture_bits(rate, place, held, coded, 0, head, output, 0);
-    let next = whole_patterns(rate, coded, head, turns, output, first.count);
-    puncture_bits(rate, 0, 0, coded, tail, 1632, output, next)
+    let start = Progress {
+        place,
+        held,
+        count: 0,
+    };
+    let first = puncture_bits(rate, start, coded, 0, head, output);
+    let count = whole_patterns(rate, coded, head, turns, output, first.count);
+    let next = Progress {
+        place: 0,
+        held: 0,
+        count,
+    };
+    puncture_bits(rate, next, coded, tail, 1632, output)
 }
 
 // X and Y of each bit of a block, into an output that is long enough.
-pub fn puncture_block(rate: u8, place: u8, held: u8, coded: &[u8], output: &mut [u8]) -> Progress
+pub fn puncture_block(rate: u8, place: u8, held: u8, coded: &Coded, output: &mut [u8]) -> Progress
     requires { (rate < qpsk_count)
         × (place < pattern_length rate)
         × (held ≤ held_count rate place)
         × (Bits coded.now)
-        × (length coded.now ≡ 3264)
         × (length (punctured_symbols rate place held coded.now 0 1632) ≤ length output.old) }
     ensures { (result ≡ progress rate place held coded.now 0 1632 0)
         × (output.new ≡ placed output.old 0 (punctured_symbols rate place held coded.now 0 1632)) }

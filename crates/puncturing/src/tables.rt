@@ -1,10 +1,28 @@
 // Constant tables of the puncturing: LONGEST_PATTERN entries for each mode, one for each place of its pattern and zeros behind them.
 use code_tables::{LONGEST_PATTERN, MODES};
 
-// The symbol that each bit of a rate's pattern completes: 0 none, 1 (X,Y), 2 the held I with X, 3 the held I with Y, 4 (Y,X).
-pub const COMPLETED: [u8; LONGEST_PATTERN * MODES] = [
-    1, 0, 0, 0, 0, 0, 0, 1, 0, 2, 3, 0, 0, 0, 1, 0, 2, 0, 0, 0, 0, 1, 0, 2, 0, 2, 0, 0, 1, 0, 3, 0,
-    2, 0, 2, 4, 0, 0, 0, 0, 0, 0,
+// What a bit of a pattern completes.
+#[derive(Clone, Copy)]
+pub enum Completion {
+    // No symbol.
+    Nothing,
+    // (X,Y) of the bit.
+    XY,
+    // The held I with X.
+    HeldX,
+    // The held I with Y.
+    HeldY,
+    // (Y,X) of the bit.
+    YX,
+}
+
+use Completion::{HeldX, HeldY, Nothing, XY, YX};
+
+pub const COMPLETED: [Completion; LONGEST_PATTERN * MODES] = [
+    XY, Nothing, Nothing, Nothing, Nothing, Nothing, Nothing, XY, Nothing, HeldX, HeldY, Nothing,
+    Nothing, Nothing, XY, Nothing, HeldX, Nothing, Nothing, Nothing, Nothing, XY, Nothing, HeldX,
+    Nothing, HeldX, Nothing, Nothing, XY, Nothing, HeldY, Nothing, HeldX, Nothing, HeldX, YX,
+    Nothing, Nothing, Nothing, Nothing, Nothing, Nothing,
 ];
 
 // 1 where an I is held before the bit.

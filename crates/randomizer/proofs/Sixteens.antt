@@ -4,7 +4,6 @@ use mathlib.Core.Path.{◌≡◌, sym, ap, ap₂, ◌∙◌, subst}
 use mathlib.Core.List.{List, [], ◌∷◌, ◌++◌, zip_with}
 use Prim.Native.Nat.{ℕ, suc, ◌+◌, ◌*◌, ◌≤◌, ◌<◌}
 use native.Mathlib.Decide.{dec_lt}
-use native.Mathlib.Nat.{zero-add}
 use native.Mathlib.Omega.{arith}
 use lib.Bits.{bit_xor}
 use lib.ListN.{length, get_or, take, drop, set}
@@ -12,7 +11,6 @@ use lib.Seq.{take-suc, take-suc-set, take-take, take_all}
 use Rattle.randomizer.specs.Prbs.{masks}
 use Rattle.randomizer.specs.Masks.{Table, Begun}
 use Rattle.randomizer.specs.Packet.{randomized}
-use Rattle.randomizer.proofs.Laws.{length_randomized}
 use Rattle.randomizer.proofs.Xors.{length_xors, get_d_xors, xors_take}
 
 module _ (place : ℕ) (packet table : List ℕ) (n : length table ≡ 188) where
@@ -26,9 +24,9 @@ module _ (place : ℕ) (packet table : List ℕ) (n : length table ≡ 188) wher
   length_sent t p = ap length (sent_by t p) ∙ length_xors packet table (omega arith) ∙ p
 
   -- one byte more
-  pub begun_more : (at j : ℕ) (r : List ℕ) → length r ≡ 188 → at + j < 188 → Begun place packet table (at + j) r
-      → Begun place packet table (at + (j + 1)) (set r (at + j) (bit_xor (get_or packet (at + j) 0) (get_or table (at + j) 0)))
-  begun_more at j r l h b = (
+  pub begun_more : (i : ℕ) (r : List ℕ) → length r ≡ 188 → i < 188 → Begun place packet table i r
+      → Begun place packet table (i + 1) (set r i (bit_xor (get_or packet i 0) (get_or table i 0)))
+  begun_more i r l h b = (
     b.0,
     b.1,
     ap (λ (k : ℕ). take k (set r i x)) next ∙ take-suc-set r i x (omega arith)
@@ -36,13 +34,10 @@ module _ (place : ℕ) (packet table : List ℕ) (n : length table ≡ 188) wher
         ∙ sym (take-suc (randomized place packet) i 0 (omega (arith, length_sent b.1 b.0))) ∙ ap (λ (k : ℕ). take k (randomized place packet)) (sym next),
   )
     where
-      i : ℕ
-      i = at + j
-
       x : ℕ
-      x = bit_xor (get_or packet (at + j) 0) (get_or table (at + j) 0)
+      x = bit_xor (get_or packet i 0) (get_or table i 0)
 
-      next : at + (j + 1) ≡ suc (at + j)
+      next : i + 1 ≡ suc i
       next = omega arith
 
   -- fewer are there too
@@ -70,10 +65,3 @@ module _ (place : ℕ) (packet table : List ℕ) (n : length table ≡ 188) wher
       go (no h) =
           let e : at + 16 ≡ 188 = omega (arith, high (omega arith)) in
           begun_all (16 * (k + 1)) r l (omega arith) (subst (λ (i : ℕ). Begun place packet table i r) e b)
-
--- the whole packet, in the output
-pub placed : (place : ℕ) (packet r d output : List ℕ) → place ≤ 7 → length packet ≡ 188 → length r ≡ 188 → take 192 r ≡ take 192 (randomized place packet)
-    → output ≡ take 0 d ++ r ++ drop (0 + length r) d → output ≡ randomized place packet ++ drop 188 d
-placed place packet r d output h p l e f =
-    f ∙ ap₂ (λ (u : List ℕ) (k : ℕ). u ++ drop k d)
-    (sym (take_all 192 r (omega arith)) ∙ e ∙ take_all 192 (randomized place packet) (omega (arith, length_randomized place packet h p))) (zero-add (length r) ∙ l)

@@ -1,24 +1,21 @@
 -- What the tests of a call tell.
 -- Assumes nothing.
-use mathlib.Core.Path.{◌≡◌, refl, sym, ◌∙◌, ap}
+use mathlib.Core.Path.{◌≡◌, refl, sym}
 use mathlib.Core.Bool.{Bool, true, false, not}
 use mathlib.Core.List.{List}
 use Prim.Native.Nat.{ℕ, ◌*◌, ◌/◌, ◌%◌, ◌≤◌, ◌<◌}
-use native.Mathlib.Nat.{mul_comm, div-lt_iff_lt-mul, le-div_iff_mul-le}
+use native.Mathlib.Nat.{div-lt_iff_lt-mul}
 use native.Mathlib.Omega.{arith}
-use borrow.Author.Tests.{ltb-true, ltb-false, lt-ltb, le-ltb, eqb-true, eq-eqb, ne_eqb}
+use borrow.Author.Tests.{ltb-true, ltb-false, lt-ltb, le-ltb, eqb-true, eq-eqb}
 use lib.Dec.{ltb, eqb}
 use lib.ListN.{length}
-use Rattle.answer.specs.Number.{number_of}
-use Rattle.answer.specs.declared.Answer.{Answer}
 use Rattle.common.specs.Choice.{pick}
 use Rattle.common.specs.Lists.{All, largest}
 use Rattle.common.proofs.Choice.{flag_false}
 use Rattle.common.proofs.Lists.{All-of}
 use Rattle.common.proofs.Largest.{largest_least}
 use Rattle.puncturing.specs.Mode.{qpsk_count}
-use Rattle.reader.specs.Read.{symbols_per_pattern, run_bits, answer_number, Readable, AnswersRun, refused}
-use Rattle.reader.specs.declared.Read.{Read}
+use Rattle.reader.specs.Read.{symbols_per_pattern, run_bits, answer_number, Readable}
 use Rattle.reader.proofs.Patterns.{some_symbols, symbols_few}
 use Rattle.puncturing.specs.Step.{pattern_length}
 use Rattle.puncturing.proofs.Steps.{some_bits}
@@ -42,9 +39,6 @@ module _ (rate memory n : ℕ) (valid : Bool) (space : ℕ) (hr : rate < qpsk_co
   pub pattern_some : 0 < pattern
   pattern_some = rw ep (some_symbols rate hr)
 
-  pub broken : ¬ (n % pattern ≡ 0) → 12 ≡ answer_number rate memory true n valid space
-  broken h = simp (lt-ltb rate qpsk_count hr, lt-ltb memory 64 hm, ne_eqb (n % symbols_per_pattern rate) 0 (rw ep at h))
-
   module _ (whole : n % pattern ≡ 0) where
     abbrev q : ℕ
     q = n / pattern
@@ -55,30 +49,11 @@ module _ (rate memory n : ℕ) (valid : Bool) (space : ℕ) (hr : rate < qpsk_co
     size : bits * q ≡ run_bits rate n
     size = rw (eb, ep)
 
-    times : bits * q ≡ q * bits
-    times = mul_comm bits q
-
     pub long : 1632 / bits < q → 13 ≡ answer_number rate memory true n valid space
     long h =
         let l : 1632 < q * bits = (div-lt_iff_lt-mul bits_some).0 h in
         let g : 1632 < run_bits rate n = rw (sym size) (omega arith) in
         simp (lt-ltb rate qpsk_count hr, lt-ltb memory 64 hm, whole_test, lt-ltb 1632 (run_bits rate n) g)
-
-    module _ (short : q ≤ 1632 / bits) where
-      pub count_le : bits * q ≤ 1632
-      count_le = let l : q * bits ≤ 1632 = (le-div_iff_mul-le bits_some).0 short in omega (arith, times)
-
-      short_test : ltb 1632 (run_bits rate n) ≡ false
-      short_test = le-ltb 1632 (run_bits rate n) (rw (sym size) count_le)
-
-      pub bad_symbol : valid ≡ false → 14 ≡ answer_number rate memory true n valid space
-      bad_symbol v = simp (lt-ltb rate qpsk_count hr, lt-ltb memory 64 hm, whole_test, short_test, v)
-
-      pub too_short : valid ≡ true → space < bits * q → 4 ≡ answer_number rate memory true n valid space
-      too_short v h = simp (lt-ltb rate qpsk_count hr, lt-ltb memory 64 hm, whole_test, short_test, v, lt-ltb space (run_bits rate n) (rw (sym size) h))
-
-      pub space_enough : valid ≡ true → bits * q ≤ space → 0 ≡ answer_number rate memory true n valid space
-      space_enough v h = simp (lt-ltb rate qpsk_count hr, lt-ltb memory 64 hm, whole_test, short_test, v, le-ltb space (run_bits rate n) (rw (sym size) h))
 
 -- ---- what the answer tells
 
@@ -139,11 +114,3 @@ readable p pairs size small = record {
 -- a run has no more symbols than bits, so that the decisions on them have room
 pub few : {rate memory : ℕ} {lists : Bool} {n : ℕ} {valid : Bool} {space : ℕ} → Passed rate memory lists n valid space → n ≤ 1632
 few {rate} {n = n} p = omega (arith, symbols_few rate p.known n p.whole, p.most)
-
--- what a refusal hands back
-pub refusal : {due : ℕ} {cost : List ℕ → ℕ} {n memory : ℕ} {output : List ℕ} (answer : Answer) (r : Read) → number_of answer ≡ due → ¬ (number_of answer ≡ 0)
-    → (r.answer ≡ answer) × (r.memory ≡ memory) × (r.cost ≡ 0) × (r.count ≡ 0)
-    → AnswersRun due cost n memory output (number_of r.answer) r.memory r.cost r.count output
-refusal answer r e h f =
-    let a = ap number_of f.0 in
-    refused (a ∙ e) (rw a (omega arith)) f.1 f.2 f.3 refl

@@ -1,6 +1,6 @@
 -- Runs of whole patterns: how many symbols they have, and the coder after them.
 -- Assumes nothing.
-use mathlib.Core.Path.{◌≡◌, refl, ◌∙◌, ap, ap₂, sym}
+use mathlib.Core.Path.{◌≡◌, refl, ◌∙◌, ap, sym}
 use mathlib.Core.List.{List, flatten}
 use Prim.Native.Nat.{ℕ, zero, suc, ◌+◌, ◌/◌, ◌%◌, ◌≤◌, ◌<◌, ◌*◌}
 use native.Mathlib.Omega.{arith}
@@ -32,10 +32,6 @@ some_symbols rate h = ltb→lt _ _ (computed.below_at (λ r. ltb 0 (symbols_per_
 symbols_le : (rate : ℕ) → rate < qpsk_count → symbols_per_pattern rate ≤ pattern_length rate
 unfolding symbols_per_pattern mode_of
 symbols_le rate h = leb→le _ _ (computed.below_at (λ r. leb (symbols_per_pattern r) (pattern_length r)) qpsk_count tt rate h)
-
--- the bits of a run, from the numbers of the rate
-pub run_count_lem : (rate n : ℕ) {s b : ℕ} → s ≡ symbols_per_pattern rate → b ≡ pattern_length rate → b * (n / s) ≡ run_bits rate n
-run_count_lem rate n es eb = ap₂ (λ (x y : ℕ). x * (n / y)) eb es
 
 -- ---- the coded bits of whole patterns
 

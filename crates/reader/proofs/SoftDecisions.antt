@@ -11,6 +11,7 @@ use lib.Dec.{eqb, ltb}
 use lib.Ieee.{Float}
 use lib.ListN.{length, get_or, take, length-map}
 use lib.Seq.{get_or-take, length-take-le}
+use Rattle.std.specs.Prelude.{Some, None}
 use Rattle.common.specs.Choice.{pick}
 use Rattle.common.specs.Lists.{All, largest}
 use Rattle.common.proofs.Choice.{both_true}
@@ -18,10 +19,8 @@ use Rattle.common.proofs.Lists.{get_d_map_in}
 use Rattle.convolutional_code.specs.Costs.{pair_cost}
 use Rattle.viterbi_decoder.proofs.Ends.{SomeDecoded}
 use Rattle.puncturing.specs.Mode.{qpsk_count}
-use Rattle.branch_metrics.specs.Cost.{BitCosts, SymbolCosts, symbol_costs, decided_as, softly, received_of}
+use Rattle.branch_metrics.specs.Cost.{BitCosts, SymbolCosts, symbol_costs, decided_as, softly, received_of, ReceivedSymbol}
 use Rattle.branch_metrics.specs.SoftPairs.{symbol_pair, symbol_at}
-use Rattle.branch_metrics.specs.declared.soft_decision.ReceivedSymbol.{ReceivedSymbol}
-use Rattle.branch_metrics.specs.declared.soft_decision.ReceivedSymbol.TheVariants.{At, Lost}
 use Rattle.branch_metrics.proofs.Numbers.{number_small, symbol_is}
 use Rattle.branch_metrics.proofs.Runs.{length_received, received_at, along_small}
 use Rattle.reader.specs.Cost.{soft_cost, Costed}
@@ -50,7 +49,7 @@ half (suc n) c = c.q
 
 -- what deciding place j as v costs: the places of symbol k are 2 k, its I, and 2 k + 1, its Q
 abbrev pub soft : List ReceivedSymbol → ℕ → ℕ → ℕ
-soft rs j v = decided_as (half (j % 2) (symbol_costs (get_or rs (j / 2) Lost))) v
+soft rs j v = decided_as (half (j % 2) (symbol_costs (get_or rs (j / 2) None))) v
 
 soft_splits : (rs : List ReceivedSymbol) → Splits (map softly rs) (soft rs) 0
 soft_splits rs = record {
@@ -59,22 +58,22 @@ soft_splits rs = record {
       let b : (0 + 2 * i) % 2 ≡ 0 = omega arith in
       let c : (0 + 2 * i + 1) / 2 ≡ i = omega arith in
       let d : (0 + 2 * i + 1) % 2 ≡ 1 = omega arith in
-      rw (a, b, c, d) (ap (λ (f : ℕ → ℕ). f s) (get_d_map_in softly rs Lost (λ s. 0) i (rw length-map at h)));
+      rw (a, b, c, d) (ap (λ (f : ℕ → ℕ). f s) (get_d_map_in softly rs None (λ s. 0) i (rw length-map at h)));
 }
 
 pub decided_small : (r : ReceivedSymbol) (n : ℕ) (t : Bool) → pick t (half n (symbol_costs r)).zero (half n (symbol_costs r)).one ≤ 7
 unfolding symbol_costs
-decided_small (At p) zero true = (number_small p.i).zero_le
-decided_small (At p) zero false = (number_small p.i).one_le
-decided_small (At p) (suc n) true = (number_small p.q).zero_le
-decided_small (At p) (suc n) false = (number_small p.q).one_le
-decided_small Lost zero true = omega arith
-decided_small Lost zero false = omega arith
-decided_small Lost (suc n) true = omega arith
-decided_small Lost (suc n) false = omega arith
+decided_small (Some p) zero true = (number_small p.i).zero_le
+decided_small (Some p) zero false = (number_small p.i).one_le
+decided_small (Some p) (suc n) true = (number_small p.q).zero_le
+decided_small (Some p) (suc n) false = (number_small p.q).one_le
+decided_small None zero true = omega arith
+decided_small None zero false = omega arith
+decided_small None (suc n) true = omega arith
+decided_small None (suc n) false = omega arith
 
 soft_small : (rs : List ReceivedSymbol) (j v : ℕ) → soft rs j v ≤ 7
-soft_small rs j v = decided_small (get_or rs (j / 2) Lost) (j % 2) (eqb v 0)
+soft_small rs j v = decided_small (get_or rs (j / 2) None) (j % 2) (eqb v 0)
 
 -- there is a best sequence
 pub soft_decoded : (rate m : ℕ) → rate < qpsk_count → m < 64 → (is qs : List Float) (lost : List ℕ) → OneLength is qs lost → length is % symbols_per_pattern rate ≡ 0
@@ -86,7 +85,7 @@ soft_decoded rate m hr hm is qs lost o whole =
 -- ---- what is written
 
 -- symbols that are given by their places, and the decisions on them
-unfoldable pub along_costed : (f : ℕ → ReceivedSymbol) (rs : List ReceivedSymbol) (n : ℕ) → length rs ≡ n → ((i : ℕ) → i < n → get_or rs i Lost ≡ f i)
+unfoldable pub along_costed : (f : ℕ → ReceivedSymbol) (rs : List ReceivedSymbol) (n : ℕ) → length rs ≡ n → ((i : ℕ) → i < n → get_or rs i None ≡ f i)
     → (l : List ℕ) → n ≤ length l → ((t : ℕ) → t < n → get_or l t 0 ≡ symbol_pair (f t)) → Costed softly rs (take n l)
 along_costed f rs n size is l long w = record {
   size = length-take-le n l long ∙ sym size;
@@ -94,7 +93,7 @@ along_costed f rs n size is l long w = record {
   each = λ i s h four.
       let b : i < n = omega (arith, size) in
       add-zero _
-      ∙ ap (λ (g : ℕ → ℕ). g s) (get_d_map_in softly rs Lost (λ s. 0) i h)
+      ∙ ap (λ (g : ℕ → ℕ). g s) (get_d_map_in softly rs None (λ s. 0) i h)
       ∙ ap (λ (r : ReceivedSymbol). softly r s) (is i b)
       ∙ sym (symbol_is (f i) s)
       ∙ ap (λ (p : ℕ). pair_cost p (s / 2) (s % 2)) (sym (get_or-take n l i 0 b ∙ w i b));

@@ -10,6 +10,7 @@ use borrow.Author.Tests.{eq-eqb}
 use lib.Dec.{eqb, ltb}
 use lib.Ieee.{Float, nan, of_bits, binary32}
 use lib.ListN.{length, get_or, drop, replicate, length-map, length-replicate}
+use Rattle.std.specs.Prelude.{Some, None}
 use Rattle.common.specs.Choice.{pick, unequal}
 use Rattle.common.specs.Lists.{All, largest}
 use Rattle.common.proofs.Lists.{zeros_at}
@@ -22,10 +23,8 @@ use Rattle.viterbi_decoder.proofs.Laws.{scale, unique, decoded_unique}
 use Rattle.puncturing.specs.Mode.{qpsk_count}
 use Rattle.inner_code.specs.Step.{symbols_of}
 use Rattle.inner_code.specs.Encode.{coder_at}
-use Rattle.branch_metrics.specs.Cost.{by_level, number_costs, symbol_costs, decided_as, softly, received_of}
+use Rattle.branch_metrics.specs.Cost.{by_level, number_costs, symbol_costs, decided_as, softly, received_of, ReceivedSymbol}
 use Rattle.branch_metrics.specs.declared.soft_decision.Point.{Point}
-use Rattle.branch_metrics.specs.declared.soft_decision.ReceivedSymbol.{ReceivedSymbol}
-use Rattle.branch_metrics.specs.declared.soft_decision.ReceivedSymbol.TheVariants.{At, Lost}
 use Rattle.branch_metrics.proofs.Numbers.{costs_nan, costs_one, costs_minus_one}
 use Rattle.reader.specs.Clear as clear
 use Rattle.reader.specs.Clear.{Clear, AllClear}
@@ -57,12 +56,12 @@ nothing true = refl
 nothing false = refl
 
 -- a lost symbol, whatever was sent
-pub lost_free : (sent : ℕ) → softly Lost sent ≡ 0
+pub lost_free : (sent : ℕ) → softly None sent ≡ 0
 unfolding symbol_costs
 lost_free sent = ap₂ (λ (x y : ℕ). x + y) (nothing (eqb (sent / 2) 0)) (nothing (eqb (sent % 2) 0))
 
 -- at either of its places, as a place does that was punctured
-pub lost_places : (rs : List ReceivedSymbol) (i : ℕ) → get_or rs i Lost ≡ Lost → (v : ℕ) → (soft rs (2 * i) v ≡ 0) × (soft rs (2 * i + 1) v ≡ 0)
+pub lost_places : (rs : List ReceivedSymbol) (i : ℕ) → get_or rs i None ≡ None → (v : ℕ) → (soft rs (2 * i) v ≡ 0) × (soft rs (2 * i + 1) v ≡ 0)
 unfolding symbol_costs
 lost_places rs i e v =
     let a : 2 * i / 2 ≡ i = omega arith in
@@ -73,7 +72,7 @@ lost_places rs i e v =
 
 -- so every sequence costs what it would if that symbol had not been sent
 pub lost_unsent : (before after : List ReceivedSymbol) (xs ys : List ℕ) (sent : ℕ) → length before ≡ length xs
-    → total_cost (map softly (before ++ Lost ∷ after)) (xs ++ sent ∷ ys) ≡ total_cost (map softly (before ++ after)) (xs ++ ys)
+    → total_cost (map softly (before ++ None ∷ after)) (xs ++ sent ∷ ys) ≡ total_cost (map softly (before ++ after)) (xs ++ ys)
 unfolding total_cost
 lost_unsent [] after [] ys sent e = omega (arith, lost_free sent)
 lost_unsent [] after (x ∷ xs) ys sent e = absurd (omega arith)
@@ -81,11 +80,11 @@ lost_unsent (r ∷ before) after [] ys sent e = absurd (omega arith)
 lost_unsent (r ∷ before) after (x ∷ xs) ys sent e = ap (λ (t : ℕ). softly r x + t) (lost_unsent before after xs ys sent (omega arith))
 
 -- a NaN frees its own number, and that one alone
-pub nan_i : (q : Float) (sent : ℕ) → softly (At (record { i = nan; q = q })) sent ≡ decided_as (number_costs q) (sent % 2)
+pub nan_i : (q : Float) (sent : ℕ) → softly (Some (record { i = nan; q = q })) sent ≡ decided_as (number_costs q) (sent % 2)
 unfolding symbol_costs
 nan_i q sent = rw costs_nan (omega (arith, nothing (eqb (sent / 2) 0)))
 
-pub nan_q : (i : Float) (sent : ℕ) → softly (At (record { i = i; q = nan })) sent ≡ decided_as (number_costs i) (sent / 2)
+pub nan_q : (i : Float) (sent : ℕ) → softly (Some (record { i = i; q = nan })) sent ≡ decided_as (number_costs i) (sent / 2)
 unfolding symbol_costs
 nan_q i sent = rw costs_nan (omega (arith, nothing (eqb (sent % 2) 0)))
 
@@ -164,12 +163,12 @@ seven (suc zero) (suc (suc v)) hb hv = absurd (omega arith)
 seven (suc (suc b)) v hb hv = absurd (omega arith)
 
 -- a point that is sure of both bits of a symbol costs seven times what the hard decision does
-sure_symbol : (p : Point) (r : ℕ) → r < 4 → Sure p.i (r / 2) → Sure p.q (r % 2) → (s : ℕ) → s / 2 < 2 → softly (At p) s ≡ 7 * differing r s
+sure_symbol : (p : Point) (r : ℕ) → r < 4 → Sure p.i (r / 2) → Sure p.q (r % 2) → (s : ℕ) → s / 2 < 2 → softly (Some p) s ≡ 7 * differing r s
 unfolding symbol_costs
 sure_symbol p r hr i q s hs = rw (i, q) (omega (arith, seven (r / 2) (s / 2) (omega arith) hs, seven (r % 2) (s % 2) (omega arith) (omega arith)))
 
 -- so it is clear about it
-pub sure_clear : (p : Point) (r : ℕ) → r < 4 → Sure p.i (r / 2) → Sure p.q (r % 2) → Clear softly (At p) r
+pub sure_clear : (p : Point) (r : ℕ) → r < 4 → Sure p.i (r / 2) → Sure p.q (r % 2) → Clear softly (Some p) r
 sure_clear p r hr i q =
     let times = sure_symbol p r hr i q in
     let d = differing_clear r in
@@ -178,7 +177,7 @@ sure_clear p r hr i q =
       only = λ t h z. d.only t h (omega (arith, times t (omega arith)));
     }
 
-signals_symbol : (r s : ℕ) → r < 4 → s / 2 < 2 → softly (At (record { i = signal (r / 2); q = signal (r % 2) })) s ≡ 7 * differing r s
+signals_symbol : (r s : ℕ) → r < 4 → s / 2 < 2 → softly (Some (record { i = signal (r / 2); q = signal (r % 2) })) s ≡ 7 * differing r s
 signals_symbol r s hr hs =
     sure_symbol (record { i = signal (r / 2); q = signal (r % 2) }) r hr (signal_sure (r / 2) (omega arith)) (signal_sure (r % 2) (omega arith)) s hs
 

@@ -7,8 +7,7 @@ use Rattle.common.specs.Lists.{list_of}
 use Rattle.convolutional_code.specs.Costs.{pair_cost}
 use Rattle.inner_code.specs.Encode.{coder_at}
 use Rattle.inner_code.specs.Step.{symbols_of}
-use Rattle.branch_metrics.specs.Cost.{softly}
-use Rattle.branch_metrics.specs.declared.soft_decision.ReceivedSymbol.{ReceivedSymbol}
+use Rattle.branch_metrics.specs.Cost.{softly, ReceivedSymbol}
 
 -- in how many of I and Q a received symbol differs from one that is sent
 abbrev pub differing : ℕ → ℕ → ℕ

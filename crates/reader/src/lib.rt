@@ -2,14 +2,14 @@
 #![tactic(auto)]
 
 ghost use Rattle.std.specs.Prelude.{◌≡◌, ℕ, ◌<◌, ◌≤◌, length, get_or};
-ghost use Rattle.answer.specs.Number.{number_of};
+ghost use Rattle.answer.specs.Number.{answered, given_or};
 ghost use Rattle.common.specs.Lists.{All};
 ghost use Rattle.puncturing.specs.Mode.{qpsk_count};
 ghost use Rattle.reader.specs.Cost.{run_cost, costs_of};
 ghost use Rattle.reader.specs.Read.{symbols_per_pattern, run_bits, sound, answer_number, Readable, BestRead, ReadsHard, ReadsSoft};
 ghost use Rattle.reader.specs.Decisions.{hard_pair};
 
-use answer::Answer;
+use answer::Refusal;
 use branch_metrics::depuncturing::spread_pairs;
 use branch_metrics::soft_decision::soft_pairs;
 use code_tables::QPSK_MODES;
@@ -22,11 +22,9 @@ const LONGEST: usize = 1632;
 // The symbols of each rate's pattern.
 const SYMBOL_COUNTS: [u8; QPSK_MODES] = [1, 3, 2, 3, 4];
 
-// What a call hands back: the answer, the coder's memory after the bits, what they cost, and how many bits were written. Where the answer is not 0,
-// the memory is the one given and the cost and the count are 0.
+// What a run was read as: the coder's memory after the bits, what they cost, and how many bits were written.
 #[derive(Clone, Copy)]
 pub struct Read {
-    pub answer: Answer,
     pub memory: u8,
     pub cost: u64,
     pub count: usize,
@@ -43,17 +41,11 @@ pub fn symbol_count(rate: u8) -> u8
 pub fn is_sound(is: &[f32], qs: &[f32], lost: &[u8]) -> bool
     ensures { result ≡ sound is.now qs.now lost.now }
 {
-    if qs.len() != is.len() {
-        return false;
-    }
-    if lost.len() != is.len() {
-        return false;
-    }
-    common::largest_of(lost) < 2
+    qs.len() == is.len() && lost.len() == is.len() && common::largest_of(lost) < 2
 }
 
-// The answer that is due to a run of so many symbols, by the tests of both calls, where its lists and its symbols pass their own or not and
-// there is space for so many bits.
+// The refusal that is due to a run of so many symbols, by the tests of both calls, where its lists and its symbols pass their own or not and
+// there is space for so many bits. lists and valid are what those tests found: each call has lists and symbols of its own kind.
 fn answer_due(
     rate: u8,
     memory: u8,
@@ -61,45 +53,34 @@ fn answer_due(
     symbols: usize,
     valid: bool,
     space: usize,
-) -> Answer
-    ensures { number_of result ≡ answer_number rate memory lists symbols valid space }
+) -> Result<(), Refusal>
+    ensures { answered result ≡ answer_number rate memory lists symbols valid space }
 {
     if rate as usize >= QPSK_MODES {
-        return Answer::UnknownRate;
+        return Err(Refusal::UnknownRate);
     }
     if memory >= 64 {
-        return Answer::StateRange;
+        return Err(Refusal::StateRange);
     }
     if !lists {
-        return Answer::SoftLists;
+        return Err(Refusal::SoftLists);
     }
     let bits = pattern_length(rate) as usize;
     let pattern = symbol_count(rate) as usize;
     if symbols % pattern != 0 {
-        return Answer::PatternLength;
+        return Err(Refusal::PatternLength);
     }
     let patterns = symbols / pattern;
     if patterns > LONGEST / bits {
-        return Answer::RunLength;
+        return Err(Refusal::RunLength);
     }
     if !valid {
-        return Answer::SymbolRange;
+        return Err(Refusal::SymbolRange);
     }
     if space < bits * patterns {
-        return Answer::OutputLength;
+        return Err(Refusal::OutputLength);
     }
-    Answer::Done
-}
-
-fn refused(answer: Answer, memory: u8) -> Read
-    ensures { (result.answer ≡ answer) × (result.memory ≡ memory) × (result.cost ≡ 0) × (result.count ≡ 0) }
-{
-    Read {
-        answer,
-        memory,
-        cost: 0,
-        count: 0,
-    }
+    Ok(())
 }
 
 // Hard decisions: writes the pair of each symbol. They are the two levels in the middle, 4 for a 0 and 3 for a 1, which cost 3 each and 1 more where the bit
@@ -108,11 +89,8 @@ pub fn hard_pairs(symbols: &[u8], output: &mut [u8])
     requires { (All (λ s. s < 4) symbols.now) × (length symbols.now ≤ length output.old) }
     ensures { (t : ℕ) → t < length symbols.now → get_or output.new t 0 ≡ hard_pair (get_or symbols.now t 0) }
 {
-    let mut i: usize = 0;
-    while i < symbols.len() {
-        let s = symbols[i];
-        output[i] = 40 - 9 * (s / 2) - s % 2;
-        i += 1;
+    for (i, s) in symbols.iter().enumerate() {
+        output[i] = 40 - 9 * (*s / 2) - *s % 2;
     }
 }
 
@@ -136,15 +114,13 @@ fn decode_pairs(rate: u8, memory: u8, pairs: &[u8], count: usize, output: &mut [
 // The core of both calls: reads a run from the decisions on I and Q of its symbols, one number for each. The cost is by these decisions.
 pub fn read_pairs(rate: u8, memory: u8, pairs: &[u8], output: &mut [u8]) -> Read
     requires { Readable rate memory pairs.now output.old }
-    ensures { (number_of result.answer ≡ 0)
-        × (BestRead (run_cost (costs_of pairs.now) rate memory) (run_bits rate (length pairs.now)) memory output.old result.memory result.cost result.count output.new) }
+    ensures { BestRead (run_cost (costs_of pairs.now) rate memory) (run_bits rate (length pairs.now)) memory output.old result.memory result.cost result.count output.new }
 {
     let bits = pattern_length(rate) as usize;
     let pattern = symbol_count(rate) as usize;
     let count = bits * (pairs.len() / pattern);
     let run = decode_pairs(rate, memory, pairs, count, output);
     Read {
-        answer: Answer::Done,
         memory: run.memory as u8,
         cost: run.cost as u64,
         count,
@@ -153,25 +129,20 @@ pub fn read_pairs(rate: u8, memory: u8, pairs: &[u8], output: &mut [u8]) -> Read
 
 // Reads a run of symbols that begins with a puncturing pattern, where memory is the coder's before it: writes one byte for each bit, 0 or 1.
 // The cost is in how many I and Q bits the coding of the bits differs from the symbols. The memory handed back serves the run that follows.
-pub fn read_run(rate: u8, memory: u8, symbols: &[u8], output: &mut [u8]) -> Read
-    ensures { ReadsHard rate memory symbols.now output.old (number_of result.answer) result.memory result.cost result.count output.new }
+pub fn read_run(rate: u8, memory: u8, symbols: &[u8], output: &mut [u8]) -> Result<Read, Refusal>
+    ensures { ReadsHard rate memory symbols.now output.old (answered result) (given_or memory (λ r. r.memory) result) (given_or 0 (λ r. r.cost) result)
+        (given_or 0 (λ r. r.count) result) output.new }
 {
     let valid = common::largest_of(symbols) < 4;
-    let answer = answer_due(rate, memory, true, symbols.len(), valid, output.len());
-    if answer.number() != 0 {
-        return refused(answer, memory);
-    }
+    answer_due(rate, memory, true, symbols.len(), valid, output.len())?;
     let mut pairs = [0u8; 1632];
     hard_pairs(symbols, &mut pairs);
-    let end = symbols.len();
-    let read = read_pairs(rate, memory, &pairs[0..end], output);
+    let read = read_pairs(rate, memory, &pairs[..symbols.len()], output);
     let excess = 6 * symbols.len() as u64;
-    Read {
-        answer: Answer::Done,
-        memory: read.memory,
+    Ok(Read {
         cost: read.cost - excess,
-        count: read.count,
-    }
+        ..read
+    })
 }
 
 // The same by soft decisions: of each symbol the two numbers of its point, and 1 where it was lost or 0.
@@ -182,16 +153,13 @@ pub fn read_soft_run(
     qs: &[f32],
     lost: &[u8],
     output: &mut [u8],
-) -> Read
-    ensures { ReadsSoft rate memory is.now qs.now lost.now output.old (number_of result.answer) result.memory result.cost result.count output.new }
+) -> Result<Read, Refusal>
+    ensures { ReadsSoft rate memory is.now qs.now lost.now output.old (answered result) (given_or memory (λ r. r.memory) result) (given_or 0 (λ r. r.cost) result)
+        (given_or 0 (λ r. r.count) result) output.new }
 {
     let lists = is_sound(is, qs, lost);
-    let answer = answer_due(rate, memory, lists, is.len(), true, output.len());
-    if answer.number() != 0 {
-        return refused(answer, memory);
-    }
+    answer_due(rate, memory, lists, is.len(), true, output.len())?;
     let mut pairs = [0u8; 1632];
     soft_pairs(is, qs, lost, &mut pairs);
-    let end = is.len();
-    read_pairs(rate, memory, &pairs[0..end], output)
+    Ok(read_pairs(rate, memory, &pairs[..is.len()], output))
 }

@@ -186,6 +186,7 @@ fn stop(
     }
 }
 
+// The files, and what was read, go on by themselves from call to call, so that tests/programs.sh can follow each file: they are no struct.
 // Turn after turn, until the input ends, a read or a write fails, a byte is no symbol, or more bytes came than can be counted. What a read brought is decided
 // and written before the next read.
 fn read_all(
@@ -213,6 +214,7 @@ fn read_all(
         held: 0,
     };
     let mut came: u64 = 0;
+    // A `while`: it reads until the input ends.
     while came <= MOST {
         let turn = next_turn(
             system,
@@ -264,14 +266,14 @@ fn run(system: &mut System, soft: bool, rate: u8) -> Ended
     read_all(system, soft, rate, input, output, errors)
 }
 
-// The rate that the only argument names, or 6, which is none.
+// The rate that the only argument names, or 6, which is none: the definition in specs/Ends.antt counts with it.
 fn rate_asked(arguments: Arguments, word: Word) -> u8
     ensures { result ≡ rate_asked (argument_count arguments) (word_bytes word) }
 {
     if arguments.count() != 1 {
         return 6;
     }
-    rate_words::mode_of(word)
+    rate_words::mode_of(word).unwrap_or(6)
 }
 
 // What a program of this name and usage does, and its status: RATE is read, `--help` and `--version` are told, and any other call is wrong.

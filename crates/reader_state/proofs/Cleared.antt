@@ -1,20 +1,19 @@
 -- Runs with zeros where they hold nothing: they hold the same, and are in range where the runs are ready; and runs in range are ready, and are such runs.
 -- Assumes nothing.
-use mathlib.Core.Path.{◌≡◌, refl, sym, ap, subst, ◌∙◌}
+use mathlib.Core.Path.{◌≡◌, sym, ap, subst, ◌∙◌}
 use mathlib.Core.Bool.{true}
-use mathlib.Core.List.{List, [], ◌++◌, append-nil}
-use Prim.Native.Nat.{ℕ, ◌+◌, ◌-◌, ◌≤◌, ◌<◌}
+use mathlib.Core.List.{List, ◌++◌}
+use Prim.Native.Nat.{ℕ, ◌-◌, ◌≤◌, ◌<◌}
 use native.Mathlib.Omega.{arith}
 use borrow.Author.Tests.{eq-eqb, lt-ltb, eqb-true, ltb-true}
 use lib.Dec.{eqb, ltb}
 use lib.ListN.{length, get_or, take, drop, replicate, length-append, length-drop, length-replicate, length-take, take-append-drop}
 use lib.Seq.{drop_at, take_at, get_or-take}
-use Rattle.common.specs.Lists.{All, largest, padded, placed}
+use Rattle.common.specs.Lists.{All, largest, padded}
 use Rattle.common.proofs.Choice.{both_true}
 use Rattle.common.proofs.Entries.{entries_below, entries_append}
 use Rattle.common.proofs.Largest.{largest_least, largest_most, largest_none, largest_zeros}
 use Rattle.common.proofs.Lists.{All-of, All-at}
-use Rattle.common.proofs.Padded.{padded_two}
 use Rattle.puncturing.specs.Mode.{qpsk_count}
 use Rattle.reader_stream.specs.Runs.{full_symbols, held_of, RunsReady, RunsHold}
 use Rattle.reader_stream.specs.declared.symbol_runs.SymbolRuns.{SymbolRuns}
@@ -22,14 +21,6 @@ use Rattle.reader_stream.proofs.Runs.{numbers}
 use Rattle.reader_state.specs.Runs.{runs_in_range, cleared_runs}
 
 -- ---- zeros behind some bytes
-
--- bytes put into zeros
-pub put_zeros : (size : ℕ) (l exit : List ℕ) → length l ≤ size → exit ≡ placed (replicate size 0) 0 l → exit ≡ padded size l
-put_zeros size l exit h e =
-    let n : length l ≡ length l + 0 = omega arith in
-    padded_two size l [] exit exit (length l) refl (omega arith) e
-    (sym (ap (λ (k : ℕ). take (length l) exit ++ drop k exit) (sym n) ∙ take-append-drop (length l) exit) ∙ ap (λ (x : List ℕ). x ++ drop (length l + 0) exit) (sym (append-nil (take (length l) exit))))
-    ∙ ap (padded size) (append-nil l)
 
 -- the bytes at the front of a list, with zeros behind them
 module _ (size n : ℕ) (l : List ℕ) (sized : length l ≡ size) (few : n ≤ size) where

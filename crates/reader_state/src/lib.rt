@@ -8,7 +8,7 @@ ghost use Rattle.reader_stream.specs.Runs.{held_of};
 ghost use Rattle.reader_state.specs.Runs.{runs_in_range};
 
 use code_tables::QPSK_MODES;
-use common::{largest_of, put};
+use common::{array_at, joined, largest_of};
 use reader_stream::symbol_runs::{SymbolRuns, full_symbols};
 
 // A byte for each cell.
@@ -16,10 +16,7 @@ pub fn pairs_at(bytes: &[u8], at: usize) -> [u8; 1632]
     requires { at + 1632 ≤ length bytes.now }
     ensures { result ≡ take 1632 (drop at bytes.now) }
 {
-    let mut pairs = [0u8; 1632];
-    let end = at + 1632;
-    put(&bytes[at..end], 0, &mut pairs);
-    pairs
+    array_at(bytes, at)
 }
 
 // The number in two bytes, the low one first.
@@ -27,7 +24,7 @@ pub fn number_at(bytes: &[u8], at: usize) -> usize
     requires { at + 2 ≤ length bytes.now }
     ensures { result ≡ get_or bytes.now at 0 + 256 * get_or bytes.now (at + 1) 0 }
 {
-    bytes[at] as usize + 256 * bytes[at + 1] as usize
+    u16::from_le_bytes([bytes[at], bytes[at + 1]]) as usize
 }
 
 // Whether the numbers of the runs are in range, and cells that hold nothing 0.
@@ -35,23 +32,13 @@ pub fn are_in_range(runs: SymbolRuns) -> bool
     requires { length runs.held ≡ 1632 }
     ensures { result ≡ runs_in_range runs }
 {
-    let rate = runs.rate;
-    let memory = runs.memory;
-    let held = runs.held;
-    let count = runs.count;
-    if rate as usize >= QPSK_MODES {
+    if runs.rate as usize >= QPSK_MODES {
         return false;
     }
-    if memory >= 64 {
-        return false;
-    }
-    if count >= full_symbols(rate) {
-        return false;
-    }
-    if largest_of(&held[count..]) != 0 {
-        return false;
-    }
-    largest_of(&held) < 81
+    runs.memory < 64
+        && runs.count < full_symbols(runs.rate)
+        && largest_of(&runs.held[runs.count..]) == 0
+        && largest_of(&runs.held) < 81
 }
 
 // The cells of the runs, with 0 where nothing is held.
@@ -59,9 +46,5 @@ pub fn cleared_pairs(runs: SymbolRuns) -> [u8; 1632]
     requires { (length runs.held ≡ 1632) × (runs.count ≤ 1632) }
     ensures { result ≡ padded 1632 (held_of runs) }
 {
-    let held = runs.held;
-    let count = runs.count;
-    let mut pairs = [0u8; 1632];
-    put(&held[..count], 0, &mut pairs);
-    pairs
+    joined(&runs.held[..runs.count], &[])
 }

@@ -18,8 +18,7 @@ use Rattle.inner_code.proofs.Coder.{length_symbols}
 use Rattle.inner_code.specs.Encode.{coder_at}
 use Rattle.viterbi_decoder.specs.Best.{Decoded}
 use Rattle.puncturing.specs.Mode.{qpsk_count}
-use Rattle.branch_metrics.specs.Cost.{softly, received_of}
-use Rattle.branch_metrics.specs.declared.soft_decision.ReceivedSymbol.{ReceivedSymbol}
+use Rattle.branch_metrics.specs.Cost.{softly, received_of, ReceivedSymbol}
 use Rattle.reader.specs.Clear.{AllClear}
 use Rattle.reader.specs.Cost.{differing, run_cost, Costed}
 use Rattle.reader.specs.Read.{symbols_per_pattern, run_bits, length_of_run}

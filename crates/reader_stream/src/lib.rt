@@ -38,6 +38,7 @@ pub struct Finished {
 }
 
 impl ReaderStream {
+    // A rate below 5 stays a fact beside the number: the calls above take any number, and refuse one that is no rate.
     pub fn new(rate: u8) -> ReaderStream
         requires { rate < qpsk_count }
         ensures { FreshReader rate result }
@@ -61,17 +62,15 @@ impl ReaderStream {
         let mut held = self.held;
         let mut count: usize = 0;
         let mut at: usize = 0;
+        // A `while`: each step is as long as what a call took.
         while at < pairs.len() {
             let taken = crate::symbol_runs::feed(runs, &pairs[at..], bits);
-            let next = taken.runs;
-            let decided = taken.count;
-            let length = taken.taken;
-            runs = next;
-            let packed = pack(carry, held, &bits[..decided], &mut output[count..]);
+            runs = taken.runs;
+            let packed = pack(carry, held, &bits[..taken.count], &mut output[count..]);
             carry = packed.carry;
             held = packed.held;
             count += packed.count;
-            at += length;
+            at += taken.taken;
         }
         ReaderFed {
             stream: ReaderStream { runs, carry, held },
@@ -84,10 +83,8 @@ impl ReaderStream {
         requires { (ReaderReady self) × (1632 ≤ length bits.old) × (204 ≤ length output.old) }
         ensures { FinishesReader self output.old result output.new }
     {
-        let runs = self.runs;
-        let closed = crate::symbol_runs::close(runs, bits);
-        let decided = closed.count;
-        let packed = pack(self.carry, self.held, &bits[..decided], output);
+        let closed = crate::symbol_runs::close(self.runs, bits);
+        let packed = pack(self.carry, self.held, &bits[..closed.count], output);
         Finished {
             count: packed.count,
             rest: closed.rest,

@@ -12,7 +12,7 @@ use convolutional_code::next_memory;
 use reader::{read_pairs, symbol_count};
 
 // Runs in progress: the rate, the coder's memory before the first symbol that is held, the decisions on the symbols that are held, one number for each,
-// and how many these are.
+// and how many these are: an array with a count, since no memory is taken for it.
 #[derive(Clone, Copy)]
 pub struct SymbolRuns {
     pub rate: u8,
@@ -36,45 +36,71 @@ pub struct Closed {
     pub rest: usize,
 }
 
-// The symbols of each rate's longest run.
-const FULL_SYMBOLS: [usize; QPSK_MODES] = [1632, 1224, 1088, 978, 932];
+// A rate's longest run: its symbols, those whose bits are kept, and these bits.
+#[derive(Clone, Copy)]
+struct LongestRun {
+    symbols: usize,
+    kept: usize,
+    bits: usize,
+}
 
-// The symbols of such a run whose bits are kept, and the bits.
-const KEPT_SYMBOLS: [usize; QPSK_MODES] = [1531, 1146, 1020, 915, 872];
-
-const KEPT_BITS: [usize; QPSK_MODES] = [1531, 1528, 1530, 1525, 1526];
+const LONGEST_RUNS: [LongestRun; QPSK_MODES] = [
+    LongestRun {
+        symbols: 1632,
+        kept: 1531,
+        bits: 1531,
+    },
+    LongestRun {
+        symbols: 1224,
+        kept: 1146,
+        bits: 1528,
+    },
+    LongestRun {
+        symbols: 1088,
+        kept: 1020,
+        bits: 1530,
+    },
+    LongestRun {
+        symbols: 978,
+        kept: 915,
+        bits: 1525,
+    },
+    LongestRun {
+        symbols: 932,
+        kept: 872,
+        bits: 1526,
+    },
+];
 
 pub fn full_symbols(rate: u8) -> usize
     requires { rate < qpsk_count }
     ensures { result ≡ full_symbols rate }
 {
-    FULL_SYMBOLS[rate as usize]
+    LONGEST_RUNS[rate as usize].symbols
 }
 
 fn kept_symbols(rate: u8) -> usize
     requires { rate < qpsk_count }
     ensures { result ≡ kept_symbols rate }
 {
-    KEPT_SYMBOLS[rate as usize]
+    LONGEST_RUNS[rate as usize].kept
 }
 
 fn kept_bits(rate: u8) -> usize
     requires { rate < qpsk_count }
     ensures { result ≡ kept_bits rate }
 {
-    KEPT_BITS[rate as usize]
+    LONGEST_RUNS[rate as usize].bits
 }
 
-// The coder's memory after bits, taken one by one.
+// The coder's memory after bits, taken one by one. A memory below 64 stays a fact: in the bytes of a state it may be any byte, which is tested.
 fn memory_through(memory: u8, bits: &[u8]) -> u8
     requires { (memory < 64) × (Bits bits.now) }
     ensures { result ≡ memory_after memory bits.now }
 {
     let mut m = memory;
-    let mut k: usize = 0;
-    while k < bits.len() {
-        m = next_memory(m, bits[k]);
-        k += 1;
+    for bit in bits {
+        m = next_memory(m, *bit);
     }
     m
 }
@@ -91,7 +117,7 @@ fn memory_after(memory: u8, bits: &[u8]) -> u8
     memory_through(memory, &bits[from..])
 }
 
-// Reads a longest run into the output: the memory after the bits of it that are kept.
+// Reads a longest run into the output: the memory after the bits of it that are kept. The output is lent by the caller, and may be longer than a run.
 fn read_full(rate: u8, memory: u8, pairs: &[u8], output: &mut [u8]) -> u8
     requires { (rate < qpsk_count) × (memory < 64) × (length pairs.now ≡ full_symbols rate) × (All (λ p. p < 81) pairs.now) × (1632 ≤ length output.old) }
     ensures { FullRead rate memory pairs.now output.old result output.new }

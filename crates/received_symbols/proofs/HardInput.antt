@@ -1,14 +1,15 @@
 -- The symbols at the front of some bytes, and their pairs.
 -- Assumes nothing.
-use mathlib.Core.Path.{◌≡◌, refl, sym, ap, subst, ◌∙◌}
-use mathlib.Core.List.{List, [], ◌∷◌, ◌++◌}
+use mathlib.Core.Path.{◌≡◌, refl, sym, ap, ◌∙◌}
+use mathlib.Core.List.{List, [], ◌∷◌}
 use Prim.Native.Nat.{ℕ, suc, ◌+◌, ◌%◌, ◌≤◌, ◌<◌}
 use native.Mathlib.Omega.{arith}
 use borrow.Author.Tests.{ltb-true, ltb-false}
 use lib.Dec.{ltb}
-use lib.ListN.{length, get_or, take}
-use lib.Seq.{take-suc, length-take-le}
-use mathlib.Core.Bool.{false}
+use lib.ListN.{length, take}
+use lib.Seq.{length-take-le}
+use mathlib.Core.Bool.{Bool, true, false, cond}
+use Rattle.std.specs.List.{prefix_len, take_while}
 use Rattle.common.specs.Lists.{All, rest_of}
 use Rattle.common.proofs.Chunks.{length_rest}
 use Rattle.reader.specs.Cost.{differing, Costed}
@@ -20,30 +21,19 @@ use Rattle.received_symbols.specs.declared.SymbolPass.{SymbolPass}
 
 -- ---- up to the first byte that is none
 
-pub record Front (input : List ℕ) (i : ℕ) : Type 0 where
-  pub most : i ≤ length input
-  pub symbols : All (λ x. x < 4) (take i input)
+-- so many of them from the front on are symbols
+front : (bytes : List ℕ) → SymbolsAtFront bytes (prefix_len (λ x. ltb x 4) bytes)
+front [] = record { most = omega arith; symbols = tt; ends = λ h. absurd (omega arith) }
+front (x ∷ bytes) = by (ltb x 4) refl (front bytes)
+  where
+    by : (b : Bool) → ltb x 4 ≡ b → SymbolsAtFront bytes (prefix_len (λ x. ltb x 4) bytes) → SymbolsAtFront (x ∷ bytes) (cond b (1 + prefix_len (λ x. ltb x 4) bytes) 0)
+    by true e f =
+        let n : 1 + prefix_len (λ x. ltb x 4) bytes ≡ suc (prefix_len (λ x. ltb x 4) bytes) = omega arith in
+        rw n (record { most = omega (arith, f.most); symbols = (ltb-true x 4 e, f.symbols); ends = λ h. f.ends (omega arith) })
+    by false e f = record { most = omega arith; symbols = tt; ends = λ h. ltb-false x 4 e }
 
-pub front_none_lem : (input : List ℕ) → Front input 0
-front_none_lem input = record { most = omega arith; symbols = tt }
-
-snoc : (xs : List ℕ) (x : ℕ) → All (λ x. x < 4) xs → x < 4 → All (λ x. x < 4) (xs ++ x ∷ [])
-snoc [] x h l = (l, tt)
-snoc (y ∷ xs) x h l = (h.0, snoc xs x h.1 l)
-
-pub front_more : {input : List ℕ} {i : ℕ} → Front input i → i < length input → get_or input i 0 < 4 → Front input (i + 1)
-front_more {input} {i} f h l =
-    let e : i + 1 ≡ suc i = omega arith in
-    record {
-      most = omega arith;
-      symbols = subst (All (λ x. x < 4)) (sym (ap (λ (k : ℕ). take k input) e ∙ take-suc input i 0 h)) (snoc (take i input) (get_or input i 0) f.symbols l);
-    }
-
-pub front_ends : {input : List ℕ} {i : ℕ} → Front input i → 4 ≤ get_or input i 0 → SymbolsAtFront input i
-front_ends f l = record { most = f.most; symbols = f.symbols; ends = λ h. l }
-
-pub front_all : {input : List ℕ} {i : ℕ} → Front input i → length input ≤ i → SymbolsAtFront input i
-front_all f l = record { most = f.most; symbols = f.symbols; ends = λ h. absurd (omega arith) }
+pub symbols_front : (bytes : List ℕ) {n : ℕ} → n ≡ length (take_while (λ x. ltb x 4) bytes) → SymbolsAtFront bytes n
+symbols_front bytes e = let f = front bytes in rw (e, length-take-le (prefix_len (λ x. ltb x 4) bytes) bytes f.most) f
 
 -- ---- their pairs
 

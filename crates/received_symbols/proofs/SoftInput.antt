@@ -12,6 +12,7 @@ use lib.Ieee.{nan, of_bits, of_fields, binary32, nan_bits, Float, is_nan}
 use lib.ListN.{length, get_or, take, drop, length-append, length-drop, length-map, set, replicate, length-set, get_or-replicate}
 use lib.Seq.{ext_get_or, get_or-take, get_or-drop, length-take-le, take_at, take-length, drop-drop, get_or-set_same, get_or-set_other}
 use borrow.Rule.Slice.PartMut.{put_mid, mid_of}
+use Rattle.std.specs.Prelude.{None}
 use Rattle.common.specs.Choice.{pick}
 use Rattle.common.specs.Lists.{All, chunks, chunks_of, rest_of}
 use Rattle.common.proofs.Choice.{false_true}
@@ -20,7 +21,6 @@ use Rattle.common.proofs.Chunks.{length-chunks, chunks-append}
 use Rattle.reader.proofs.Outcome.{not_true}
 use Rattle.reader.proofs.SoftDecisions.{along_costed}
 use Rattle.branch_metrics.specs.SoftPairs.{number_decision, symbol_pair, symbol_at}
-use Rattle.branch_metrics.specs.declared.soft_decision.ReceivedSymbol.TheVariants.{Lost}
 use Rattle.branch_metrics.proofs.Runs.{along_small}
 use Rattle.branch_metrics.specs.Cost.{softly, received}
 use Rattle.reader.specs.Cost.{Costed}
@@ -108,10 +108,10 @@ chunk_point bytes k =
 points_length : (bytes : List ℕ) → length (points_of bytes) ≡ length bytes / 8
 points_length bytes = length-map (chunks_of 8 bytes) point_of ∙ length-chunks 8 bytes
 
-points_at : (bytes : List ℕ) (i : ℕ) → i < length bytes / 8 → get_or (points_of bytes) i Lost ≡ point_at bytes i
+points_at : (bytes : List ℕ) (i : ℕ) → i < length bytes / 8 → get_or (points_of bytes) i None ≡ point_at bytes i
 unfolding chunks_of
 points_at bytes i h =
-    get_d_map_in point_of (chunks_of 8 bytes) [] Lost i (omega (arith, length-chunks 8 bytes))
+    get_d_map_in point_of (chunks_of 8 bytes) [] None i (omega (arith, length-chunks 8 bytes))
     ∙ ap point_of (chunk_at (length bytes / 8) i bytes h) ∙ chunk_point bytes i
 
 -- the decisions on points behind whole points
@@ -144,7 +144,7 @@ point_pair : (i q : Float) → symbol_pair (received i q 0) ≡ symbol_pair (poi
 unfolding symbol_pair number_decision
 point_pair i q = by (is_nan i) (is_nan q) refl refl
   where
-    by : (a b : Bool) → is_nan i ≡ a → is_nan q ≡ b → symbol_pair (received i q 0) ≡ symbol_pair (pick a (pick b Lost (received i q 0)) (received i q 0))
+    by : (a b : Bool) → is_nan i ≡ a → is_nan q ≡ b → symbol_pair (received i q 0) ≡ symbol_pair (pick a (pick b None (received i q 0)) (received i q 0))
     by true true e f = rw (e, f) refl
     by true false e f = refl
     by false true e f = refl
@@ -198,7 +198,7 @@ module _ (bytes pairs : List ℕ) (w : (t : ℕ) → t < length bytes / 8 → ge
       ext_get_or 0 (take n pairs) (pairs_of bytes) (k ∙ sym (pairs_length bytes))
       (λ i h.
       get_or-take n pairs i 0 (omega (arith, k)) ∙ w i (omega (arith, k))
-      ∙ sym (get_d_map_in symbol_pair (points_of bytes) Lost 0 i (omega (arith, k, points_length bytes)) ∙ ap symbol_pair (points_at bytes i (omega (arith, k)))))
+      ∙ sym (get_d_map_in symbol_pair (points_of bytes) None 0 i (omega (arith, k, points_length bytes)) ∙ ap symbol_pair (points_at bytes i (omega (arith, k)))))
 
   pub points_costed : Costed softly (points_of bytes) (take n pairs)
   points_costed = along_costed (point_at bytes) (points_of bytes) n (points_length bytes) (points_at bytes) pairs long w

@@ -1,15 +1,13 @@
 -- Received symbols as bytes: hard decisions, one byte each, 0 to 3; or points, two f32 each, I and then Q, the lowest byte first.
 -- Clauses: document 02, P1 and P8.
 -- Assumes nothing.
-use Rattle.std.specs.Prelude.{Bool, true, false, List, map, ℕ, ◌+◌, ◌*◌, ◌<◌, Float, get_or}
+use Rattle.std.specs.Prelude.{Bool, true, false, List, map, ℕ, ◌+◌, ◌*◌, ◌<◌, Float, get_or, Some, None}
 use Rattle.std.specs.Float.Ieee.{is_nan, of_bits}
 use Rattle.std.specs.Float.{binary32}
 use Rattle.common.specs.Choice.{pick}
 use Rattle.common.specs.Lists.{All, chunks_of}
-use Rattle.branch_metrics.specs.Cost.{softly}
+use Rattle.branch_metrics.specs.Cost.{softly, ReceivedSymbol}
 use Rattle.branch_metrics.specs.SoftPairs.{symbol_pair}
-use Rattle.branch_metrics.specs.declared.soft_decision.ReceivedSymbol.{ReceivedSymbol}
-use Rattle.branch_metrics.specs.declared.soft_decision.ReceivedSymbol.TheVariants.{At, Lost}
 use Rattle.reader.specs.Cost.{differing}
 
 -- ---- points
@@ -24,7 +22,7 @@ number bytes at = of_bits binary32 (word_at bytes at)
 
 -- the symbol that two numbers stand for: a lost one where both are NaN
 abbrev pub point : Float → Float → ReceivedSymbol
-point i q = pick (is_nan i) (pick (is_nan q) Lost (At (record { i = i; q = q }))) (At (record { i = i; q = q }))
+point i q = pick (is_nan i) (pick (is_nan q) None (Some (record { i = i; q = q }))) (Some (record { i = i; q = q }))
 
 -- that of eight bytes, and those of the whole points of some bytes
 abbrev pub point_of : List ℕ → ReceivedSymbol

@@ -15,7 +15,7 @@ mod symbols;
 
 pub use points::point_pairs;
 
-// A reader, and the bytes of a point that is not whole yet: so many of the tail.
+// A reader, and the bytes of a point that is not whole yet: so many of the tail. An array with a count, since no memory is taken for it.
 #[derive(Clone, Copy)]
 pub struct SymbolPass {
     pub stream: ReaderStream,
@@ -24,6 +24,7 @@ pub struct SymbolPass {
 }
 
 // What was taken of some bytes: the pass after it, how many bytes, whether the byte behind them is no symbol, and how many bytes stand in the output.
+// That it stopped is no refusal: what was taken before that byte stands.
 #[derive(Clone, Copy)]
 pub struct SymbolsTaken {
     pub pass: SymbolPass,
@@ -32,7 +33,8 @@ pub struct SymbolsTaken {
     pub count: usize,
 }
 
-// Takes the symbols of some bytes.
+// Takes the symbols of some bytes. The lists for pairs and bits are lent, so that they are made once and not for each piece; in a struct each call would take
+// them out again. That the reader is ready stays a fact, `ReaderReady`: its numbers are public.
 pub fn take_bytes(
     soft: bool,
     stream: ReaderStream,

@@ -10,22 +10,15 @@ ghost use Rattle.received_symbols.specs.Pass.{TakesBytes};
 
 use crate::{SymbolPass, SymbolsTaken};
 use branch_metrics::soft_decision::soft_pairs;
-use common::{least, put};
+use common::put;
 use reader_stream::ReaderStream;
-
-// The number of four bytes, the lowest first.
-fn word_of(a: u8, b: u8, c: u8, d: u8) -> u32
-    ensures { result ≡ a + 256 * b + 65536 * c + 16777216 * d }
-{
-    a as u32 + 256 * b as u32 + 65536 * c as u32 + 16777216 * d as u32
-}
 
 // The number whose lowest byte is at a place.
 fn word_at(bytes: &[u8], at: usize) -> u32
     requires { at + 4 ≤ length bytes.now }
     ensures { result ≡ word_at bytes.now at }
 {
-    word_of(bytes[at], bytes[at + 1], bytes[at + 2], bytes[at + 3])
+    u32::from_le_bytes([bytes[at], bytes[at + 1], bytes[at + 2], bytes[at + 3]])
 }
 
 // Whether a pattern is that of a NaN: without the sign, it is above that of the infinity.
@@ -50,10 +43,8 @@ fn read_numbers(bytes: &[u8], at: usize, count: usize, numbers: &mut [f32])
     requires { (at + 8 * count ≤ length bytes.now + 4) × (count ≤ length numbers.old) }
     ensures { (t : ℕ) → t < count → get_or numbers.new t nan ≡ number bytes.now (at + 8 * t) }
 {
-    let mut k: usize = 0;
-    while k < count {
+    for k in 0..count {
         numbers[k] = number_of(word_at(bytes, at + 8 * k));
-        k += 1;
     }
 }
 
@@ -76,8 +67,9 @@ pub fn point_pairs(bytes: &[u8], count: usize, output: &mut [u8])
     ensures { (t : ℕ) → t < count → get_or output.new t 0 ≡ symbol_pair (point_at bytes.now t) }
 {
     let mut k: usize = 0;
+    // A `while`: each step takes as many points as its lists hold, or those that are left.
     while k < count {
-        let some = least(256, (count - k) as u64) as usize;
+        let some = (count - k).min(256);
         let end = k + some;
         some_pairs(bytes, k, some, &mut output[k..end]);
         k = end;
@@ -98,19 +90,17 @@ pub fn take_points(
     let points = bytes.len() / 8;
     point_pairs(bytes, points, pairs);
     let fed = stream.feed(&pairs[..points], bits, output);
-    let next = fed.stream;
-    let count = fed.count;
     let whole = 8 * points;
     let mut tail = [0u8; 8];
     put(&bytes[whole..], 0, &mut tail);
     SymbolsTaken {
         pass: SymbolPass {
-            stream: next,
+            stream: fed.stream,
             tail,
             held: bytes.len() % 8,
         },
         taken: bytes.len(),
         stopped: false,
-        count,
+        count: fed.count,
     }
 }

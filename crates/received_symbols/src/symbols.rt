@@ -1,7 +1,7 @@
 // Hard decisions: the bytes of symbols, one each, are taken up to the first that is none.
-ghost use Rattle.std.specs.Prelude.{◌+◌, ◌*◌, ◌≤◌, false, length};
+ghost use Rattle.std.specs.Prelude.{◌≡◌, ◌+◌, ◌*◌, ◌≤◌, false, length, nat_lt, take_while};
 ghost use Rattle.reader_stream.specs.Stream.{ReaderReady};
-ghost use Rattle.received_symbols.specs.Pass.{SymbolsAtFront, TakesBytes};
+ghost use Rattle.received_symbols.specs.Pass.{TakesBytes};
 
 use crate::{SymbolPass, SymbolsTaken};
 use reader::hard_pairs;
@@ -9,16 +9,9 @@ use reader_stream::ReaderStream;
 
 // How many bytes at the front are symbols.
 fn symbols_in(bytes: &[u8]) -> usize
-    ensures { SymbolsAtFront bytes.now result }
+    ensures { result ≡ length (take_while (λ b. nat_lt b 4) bytes.now) }
 {
-    let mut i: usize = 0;
-    while i < bytes.len() {
-        if bytes[i] >= 4 {
-            return i;
-        }
-        i += 1;
-    }
-    i
+    bytes.iter().take_while(|b| **b < 4).count()
 }
 
 // Takes the symbols of some bytes, up to the first byte that is none.
@@ -35,17 +28,14 @@ pub fn take_symbols(
     let taken = symbols_in(bytes);
     hard_pairs(&bytes[..taken], pairs);
     let fed = stream.feed(&pairs[..taken], bits, output);
-    let next = fed.stream;
-    let count = fed.count;
-    let tail = [0u8; 8];
     SymbolsTaken {
         pass: SymbolPass {
-            stream: next,
-            tail,
+            stream: fed.stream,
+            tail: [0; 8],
             held: 0,
         },
         taken,
         stopped: taken < bytes.len(),
-        count,
+        count: fed.count,
     }
 }

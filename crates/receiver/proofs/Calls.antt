@@ -8,18 +8,17 @@ use native.Mathlib.Omega.{arith}
 use borrow.Author.Tests.{eq-eqb, ne_eqb, lt-ltb, le-ltb, ltb-true}
 use lib.Dec.{ltb, eqb}
 use lib.ListN.{length, get_or, drop, drop_of_length-le}
+use Rattle.std.proofs.Common.{Some, Ok, Err}
 use Rattle.common.specs.Choice.{pick}
 use Rattle.common.specs.Lists.{largest}
 use Rattle.common.proofs.Choice.{both_true}
 use Rattle.answer.specs.Number.{number_of}
-use Rattle.answer.specs.declared.Answer.{Answer}
-use Rattle.answer.specs.declared.Answer.TheVariants as answer
+use Rattle.answer.specs.declared.Refusal.{Refusal}
+use Rattle.answer.specs.declared.Refusal.TheVariants as answer
 use Rattle.reed_solomon.specs.Code.{differ, differ_bits, changes, no_change}
-use Rattle.reed_solomon.specs.Decode.{changed_by}
+use Rattle.reed_solomon.specs.Decode.{Decoded, changed_by}
 use Rattle.reed_solomon.specs.Marks.{are_marks, DecodesMarked}
 use Rattle.reed_solomon.specs.declared.Changed.{Changed}
-use Rattle.reed_solomon.specs.declared.Decoded.{Decoded}
-use Rattle.reed_solomon.specs.declared.Decoded.TheVariants.{Corrected, Uncorrectable, BlockLength, MarkValue}
 use Rattle.reed_solomon.proofs.Codewords.{codeword_length}
 use Rattle.reed_solomon.proofs.Laws.{FewChanges}
 use Rattle.interleaver.specs.Branch as branch
@@ -28,7 +27,6 @@ use Rattle.interleaver.specs.declared.branches.Branches.{Branches}
 use Rattle.interleaver.specs.declared.branches.Side.TheVariants.{Receiving}
 use Rattle.interleaver.specs.declared.Deinterleaver.{Deinterleaver}
 use Rattle.group_sync.specs.Group.{sync_in_range, group_step}
-use Rattle.group_sync.specs.declared.BlockDecoding.TheVariants as decoding
 use Rattle.group_sync.specs.declared.GroupSync.{GroupSync}
 use Rattle.group_sync.specs.declared.GroupStep.{GroupStep}
 use Rattle.group_sync.proofs.Synchronization.{accepted_outcome}
@@ -66,7 +64,7 @@ parts_range s most r e f =
     f ∙ ap (λ (k : ℕ). pick (branch.positions_within Receiving s.deinterleaver.branches.positions 12) (pick (ltb k 2) (pick (sync_in_range s.sync) (counts_in_range s.counts) false) false) false) e
 
 -- an accepted block is in the sums over the accepted blocks
-accepted_whole : (s : GroupSync) (first n : ℕ) → sync_in_range s ≡ true → of_accepted (group_step s (decoding.Accepted first)).outcome n ≡ n
+accepted_whole : (s : GroupSync) (first n : ℕ) → sync_in_range s ≡ true → of_accepted (group_step s (Some first)).outcome n ≡ n
 accepted_whole s first n h = accepted_outcome (λ o. of_accepted o n ≡ n) s first (λ p l. refl) refl refl h
 
 -- a state by its parts
@@ -111,46 +109,43 @@ module _ (s : Receiver) (block marks output : List ℕ) (y : Ready s block marks
     filling_output = ready_output left decoded ∙ simp (lt-ltb _ _ h)
 
   -- the call while filling
-  pub filling_call : s.counts.taken < 11 → (a : Answer) (d : Deinterleaver) (k : List ℕ) (n : Counts) (exit : List ℕ)
-      → number_of a ≡ 9 → d.branches ≡ branches_after Receiving s.deinterleaver.branches block → k ≡ (branches_after Receiving (marks_in s) marks).cells
+  pub filling_call : s.counts.taken < 11 → (d : Deinterleaver) (k : List ℕ) (n : Counts) (exit : List ℕ)
+      → d.branches ≡ branches_after Receiving s.deinterleaver.branches block → k ≡ (branches_after Receiving (marks_in s) marks).cells
       → n ≡ counted s.counts 9 0 0 → exit ≡ output
-      → ReceivesMarked s block marks output (record { answer = a; receiver = record { deinterleaver = d; marks = k; sync = s.sync; counts = n } }) exit
-  filling_call h a d k n exit p q j e w = record {
+      → ReceivesMarked s block marks output 9 (record { deinterleaver = d; marks = k; sync = s.sync; counts = n }) exit
+  filling_call h d k n exit q j e w = record {
     left = [];
-    decoded = Uncorrectable;
+    decoded = Err answer.Uncorrectable;
     decodes = λ r l. absurd (omega arith);
-    number = p ∙ sym (filling_number h [] Uncorrectable);
-    state = states s.sync q j e ∙ sym (filling_state h [] Uncorrectable);
-    written = w ∙ sym (filling_output h [] Uncorrectable);
+    number = sym (filling_number h [] (Err answer.Uncorrectable));
+    state = states s.sync q j e ∙ sym (filling_state h [] (Err answer.Uncorrectable));
+    written = w ∙ sym (filling_output h [] (Err answer.Uncorrectable));
   }
 
   -- of each number of changes that decoding tells, the sum over the accepted blocks takes what differs
   pub changed_is : (f : Changed → ℕ) → f no_change ≡ 0 → (left : List ℕ) (decoded : Decoded) → DecodesMarked (delayed_marks s marks) (delayed_block s block) left decoded
       → f (changed_by decoded) ≡ of_accepted (group_step s.sync (decoding_of decoded (get_or left 0 0))).outcome (f (changes (delayed_block s block) left))
-  changed_is f z left (Corrected changed) d =
+  changed_is f z left (Ok changed) d =
       ap f d.2.counted ∙ sym (accepted_whole s.sync (get_or left 0 0) (f (changes (delayed_block s block) left)) (state_range s y.range).sync)
-  changed_is f z left Uncorrectable d = z
-  changed_is f z left BlockLength d = z
-  changed_is f z left MarkValue d = z
+  changed_is f z left (Err _) d = z
 
   -- the call after filling
   pub decoding_call : 11 ≤ s.counts.taken → (left : List ℕ) (decoded : Decoded) → DecodesMarked (delayed_marks s marks) (delayed_block s block) left decoded
       → (g : GroupStep) → g ≡ group_step s.sync (decoding_of decoded (get_or left 0 0))
-      → (a : Answer) (d : Deinterleaver) (k : List ℕ) (n : Counts) (exit : List ℕ)
-      → number_of a ≡ outcome_number g.outcome
+      → (d : Deinterleaver) (k : List ℕ) (n : Counts) (exit : List ℕ)
       → d.branches ≡ branches_after Receiving s.deinterleaver.branches block
       → k ≡ (branches_after Receiving (marks_in s) marks).cells
       → n ≡ counted s.counts (outcome_number g.outcome) (changed_by decoded).bytes (changed_by decoded).bits
       → exit ≡ output_after g.outcome left output
-      → ReceivesMarked s block marks output (record { answer = a; receiver = record { deinterleaver = d; marks = k; sync = g.sync; counts = n } }) exit
+      → ReceivesMarked s block marks output (outcome_number g.outcome) (record { deinterleaver = d; marks = k; sync = g.sync; counts = n }) exit
   unfolding state_after
-  decoding_call h left decoded c g i a d k n exit p q j e w =
+  decoding_call h left decoded c g i d k n exit q j e w =
       let o : step_of s left decoded ≡ g = simp (le-ltb _ _ h) (sym i) in
       record {
         left = left;
         decoded = decoded;
         decodes = λ r l. c;
-        number = p ∙ sym (ready_number left decoded ∙ ap (λ (x : GroupStep). outcome_number x.outcome) o);
+        number = sym (ready_number left decoded ∙ ap (λ (x : GroupStep). outcome_number x.outcome) o);
         state = states g.sync q j (e ∙ changed) ∙ sym (ready_state left decoded ∙ ap whole o);
         written = w ∙ sym (ready_output left decoded ∙ ap (λ (x : GroupStep). output_after x.outcome left output) o);
       }
@@ -187,35 +182,36 @@ output_filled l output exit n e = e ∙ ap (λ (x : List ℕ). l ++ x) (drop_of_
 
 -- decoding keeps the length
 pub left_length : (marks came left : List ℕ) (decoded : Decoded) → DecodesMarked marks came left decoded → length came ≡ 204 → length left ≡ 204
-left_length marks came left (Corrected changed) d n = codeword_length left d.2.codeword
-left_length marks came left Uncorrectable d n = ap length d.2.unchanged ∙ n
-left_length marks came left BlockLength d n = absurd (d.0 n)
-left_length marks came left MarkValue d n = ap length d.2 ∙ n
+left_length marks came left (Ok changed) d n = codeword_length left d.2.codeword
+left_length marks came left (Err answer.Uncorrectable) d n = ap length d.2.unchanged ∙ n
+left_length marks came left (Err answer.BlockLength) d n = absurd (d.0 n)
+left_length marks came left (Err answer.MarkValue) d n = ap length d.2 ∙ n
+left_length marks came left (Err _) d n = absurd d
 
 -- ---- a call that is refused
 
 module _ (s : Receiver) (block marks output : List ℕ) where
-  refused_call : (a : Answer) (n : ℕ) → number_of a ≡ suc n → receive_refusal s block marks output ≡ suc n
-      → ReceivesMarked s block marks output (record { answer = a; receiver = s }) output
+  refused_call : (a : Refusal) (n : ℕ) → number_of a ≡ suc n → receive_refusal s block marks output ≡ suc n
+      → ReceivesMarked s block marks output (number_of a) s output
   refused_call a n m e =
       let z = ne_eqb (suc n) 0 (λ h. omega arith) in
-      record { left = []; decoded = Uncorrectable; decodes = λ r l. absurd (omega (arith, e)); number = m ∙ simp (e, z); state = simp (e, z); written = simp (e, z) }
+      record { left = []; decoded = Err answer.Uncorrectable; decodes = λ r l. absurd (omega (arith, e)); number = m ∙ simp (e, z); state = simp (e, z); written = simp (e, z) }
 
-  pub refused_range : receiver_in_range s ≡ false → ReceivesMarked s block marks output (record { answer = answer.StateRange; receiver = s }) output
+  pub refused_range : receiver_in_range s ≡ false → ReceivesMarked s block marks output (number_of answer.StateRange) s output
   refused_range r = refused_call answer.StateRange 4 refl (simp r)
 
   module _ (r : receiver_in_range s ≡ true) where
-    pub refused_length : eqb (length block) 204 ≡ false → ReceivesMarked s block marks output (record { answer = answer.BlockLength; receiver = s }) output
+    pub refused_length : eqb (length block) 204 ≡ false → ReceivesMarked s block marks output (number_of answer.BlockLength) s output
     refused_length l = refused_call answer.BlockLength 2 refl (simp (r, l))
 
     module _ (l : eqb (length block) 204 ≡ true) where
-      pub refused_marks : are_marks marks ≡ false → ReceivesMarked s block marks output (record { answer = answer.MarkValue; receiver = s }) output
+      pub refused_marks : are_marks marks ≡ false → ReceivesMarked s block marks output (number_of answer.MarkValue) s output
       refused_marks m = refused_call answer.MarkValue 19 refl (simp (r, l, m))
 
       module _ (m : are_marks marks ≡ true) where
-        pub refused_output : ltb (length output) 188 ≡ true → ReceivesMarked s block marks output (record { answer = answer.OutputLength; receiver = s }) output
+        pub refused_output : ltb (length output) 188 ≡ true → ReceivesMarked s block marks output (number_of answer.OutputLength) s output
         refused_output o = refused_call answer.OutputLength 3 refl (simp (r, l, m, o))
 
         pub refused_full : ltb (length output) 188 ≡ false → ltb s.counts.taken 4294967295 ≡ false
-            → ReceivesMarked s block marks output (record { answer = answer.CountsFull; receiver = s }) output
+            → ReceivesMarked s block marks output (number_of answer.CountsFull) s output
         refused_full o t = refused_call answer.CountsFull 6 refl (simp (r, l, m, o, t))

@@ -8,14 +8,13 @@ use native.Mathlib.Nat.{not-suc-le-zero}
 use native.Mathlib.Omega.{arith}
 use lib.ListN.{length, get_or, take, drop, get_or-append}
 use lib.Seq.{take_at}
+use Rattle.std.proofs.Common.{Option, Some, Ok}
 use Rattle.common.specs.Lists.{All, Bytes}
 use Rattle.common.proofs.Entries.{bytes_of, bytes_entries}
 use Rattle.reed_solomon.specs.Code.{differ, changes}
 use Rattle.reed_solomon.specs.Encode.{encoded, check_bytes}
-use Rattle.reed_solomon.specs.Decode.{Decodes}
+use Rattle.reed_solomon.specs.Decode.{Decoded, Decodes}
 use Rattle.reed_solomon.specs.Marks.{DecodesMarked}
-use Rattle.reed_solomon.specs.declared.Decoded.{Decoded}
-use Rattle.reed_solomon.specs.declared.Decoded.TheVariants.{Corrected}
 use Rattle.reed_solomon.proofs.LongDivision.{encoded_codeword}
 use Rattle.reed_solomon.proofs.Laws.{Same, decodes_near}
 use Rattle.randomizer.specs.Packet.{randomized, derandomized}
@@ -27,8 +26,6 @@ use Rattle.interleaver.proofs.Blocks.{length_out}
 use Rattle.interleaver.specs.Stream.{run}
 use Rattle.group_sync.specs.Group.{due_byte}
 use Rattle.group_sync.specs.Stream.{sent_from}
-use Rattle.group_sync.specs.declared.BlockDecoding.{BlockDecoding}
-use Rattle.group_sync.specs.declared.BlockDecoding.TheVariants as decoding
 use Rattle.receiver.specs.Receive.{NoMarks, delayed_block, delayed_marks, decoding_of}
 use Rattle.receiver.specs.Run.{Call, after_call, lent_blocks, Plain}
 use Rattle.receiver.specs.Begun.{lefts, decodings}
@@ -61,13 +58,13 @@ module _ (n : ℕ) (p : List ℕ) (w : Packet p) where
 
   -- a block near it is corrected to it
   module _ (came left : List ℕ) (decoded : Decoded) (size : length came ≡ 204) (near : differ came (encoded sent) ≤ 8) (d : Decodes came left decoded) where
-    same : Same left (encoded sent) decoded (Corrected (changes came (encoded sent)))
+    same : Same left (encoded sent) decoded (Ok (changes came (encoded sent)))
     same = decodes_near came (encoded sent) left decoded size (encoded_codeword sent sent_length sent_bytes_lem) near d
 
     near_left : left ≡ encoded sent
     near_left = same.block
 
-    near_decoding : decoding_of decoded (get_or left 0 0) ≡ decoding.Accepted (due_byte (n % 8))
+    near_decoding : decoding_of decoded (get_or left 0 0) ≡ Some (due_byte (n % 8))
     near_decoding =
         ap₂ (λ (r : Decoded) (x : ℕ). decoding_of r x) same.answer (ap (λ (x : List ℕ). get_or x 0 0) near_left ∙ coded_first)
 
@@ -111,7 +108,7 @@ corrected n (p ∷ ps) (c ∷ cs) s u z pl ws q =
           ap₂ (λ (x : List ℕ) (xs : List (List ℕ)). x ∷ xs)
           (near_left n p ws.0 (delayed_block s c.block) c.left c.decoded k q.0 d) r.blocks;
       accepted =
-          ap₂ (λ (x : BlockDecoding) (xs : List BlockDecoding). x ∷ xs)
+          ap₂ (λ (x : Option ℕ) (xs : List (Option ℕ)). x ∷ xs)
           (near_decoding n p ws.0 (delayed_block s c.block) c.left c.decoded k q.0 d) r.accepted;
     }
 

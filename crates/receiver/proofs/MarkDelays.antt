@@ -11,7 +11,7 @@ use Rattle.common.proofs.Largest.{largest_least, largest_most}
 use Rattle.common.proofs.Lists.{zeros_at}
 use Rattle.reed_solomon.specs.Decode.{Decodes}
 use Rattle.reed_solomon.specs.Marks.{Marks, no_marks, DecodesMarked}
-use Rattle.reed_solomon.specs.declared.Decoded.{Decoded}
+use Rattle.reed_solomon.specs.Decode.{Decoded}
 use Rattle.reed_solomon.proofs.MarkedDistance.{without_marks}
 use Rattle.interleaver.specs.Branch.{laid}
 use Rattle.interleaver.specs.Block.{block_out, branches_after}

@@ -14,7 +14,6 @@ use Rattle.reception_counts.proofs.Ranges.{counts_range}
 use Rattle.receiver.specs.Receive.{NoMarks, receiver_in_range, state_after, Ready, ReceivesMarked}
 use Rattle.receiver.specs.Run.{Call}
 use Rattle.receiver.specs.declared.Receiver.{Receiver}
-use Rattle.receiver.specs.declared.Received.{Received}
 use Rattle.receiver.proofs.Calls.{state_range, ready_state}
 use Rattle.receiver.proofs.MarkDelays.{none_stays}
 use Rattle.receiver.proofs.Reached.{Sound, sound_range, sound_call, Refused, ready_or_refused, refused_state, CallDecoded, call_decoded}
@@ -30,8 +29,8 @@ pub record Kept (s after : Receiver) : Type 0 where
   pub sized : Sized after
   pub range : receiver_in_range s ≡ receiver_in_range after
 
-module _ (s : Receiver) (block marks output : List ℕ) (r : Received) (exit : List ℕ) (z : Sized s) (v : ReceivesMarked s block marks output r exit) where
-  abbrev m : CallDecoded s block marks output r exit
+module _ (s : Receiver) (block marks output : List ℕ) (answer : ℕ) (next : Receiver) (exit : List ℕ) (z : Sized s) (v : ReceivesMarked s block marks output answer next exit) where
+  abbrev m : CallDecoded s block marks output answer next exit
   m = call_decoded v
 
   sound : receiver_in_range s ≡ true → Sound s
@@ -48,26 +47,26 @@ module _ (s : Receiver) (block marks output : List ℕ) (r : Received) (exit : L
   abbrev call : Call
   call = record { block = block; marks = marks; output = output; left = m.left; decoded = m.decoded }
 
-  pub kept_by : Kept s r.receiver
+  pub kept_by : Kept s next
   kept_by = by (ready_or_refused s block marks output)
     where
-      by : Ready s block marks output ⊎ Refused s block marks output → Kept s r.receiver
+      by : Ready s block marks output ⊎ Refused s block marks output → Kept s next
       by (inl y) =
           let g = subst Sound (sym m.state) (sound_call s call (sound y.range) m.decodes) in
           record {
             sized = record { cells = g.branches.cells; positions = g.branches.positions; marks = g.marks };
-            range = y.range ∙ sym (sound_range r.receiver g);
+            range = y.range ∙ sym (sound_range next g);
           }
       by (inr f) =
-          let e : r.receiver ≡ s = m.state ∙ refused_state s block marks output m.left m.decoded f in
+          let e : next ≡ s = m.state ∙ refused_state s block marks output m.left m.decoded f in
           record { sized = subst Sized (sym e) z; range = ap receiver_in_range (sym e) }
 
   -- where no mark is in the delays and none comes, none is in them afterwards
-  pub still_none : NoMarks s → marks ≡ no_marks → NoMarks r.receiver
+  pub still_none : NoMarks s → marks ≡ no_marks → NoMarks next
   unfolding state_after
   still_none n e = by (ready_or_refused s block marks output)
     where
-      by : Ready s block marks output ⊎ Refused s block marks output → NoMarks r.receiver
+      by : Ready s block marks output ⊎ Refused s block marks output → NoMarks next
       by (inl y) =
           let p = s.deinterleaver.branches.positions in
           ap (λ (a : Receiver). a.marks) (m.state ∙ ready_state s block marks output y m.left m.decoded)

@@ -32,7 +32,7 @@ pub record CallsOf (s : Receiver) (blocks : List (List ℕ)) (numbers : List ℕ
 pub kept_calls : {s last : Receiver} {blocks : List (List ℕ)} {numbers : List ℕ} {packets : List (List ℕ)} → Kept s blocks numbers packets last
     → CallsOf s blocks numbers packets last
 kept_calls none = record { calls = []; lent = refl; plain = tt; output_fits = tt; decodes = tt; answered = refl; given = refl; state = refl }
-kept_calls {s} (call block output exit r h v k) =
+kept_calls {s} (call block output exit number next h v k) =
     let p = call_decoded v in
     let c : Call = record { block = block; marks = no_marks; output = output; left = p.left; decoded = p.decoded } in
     let m = kept_calls k in

@@ -10,18 +10,17 @@ use native.Mathlib.Omega.{arith}
 use borrow.Author.Tests.{eq-eqb, ne_eqb, lt-ltb, le-ltb}
 use lib.Dec.{eqb, ltb}
 use lib.ListN.{length, get_or, length-replicate}
+use Rattle.std.proofs.Common.{Result, Ok, Err}
 use Rattle.common.specs.Choice.{pick, indicator}
 use Rattle.common.specs.Lists.{largest}
 use Rattle.common.proofs.Largest.{largest_zeros}
-use Rattle.answer.specs.Number.{number_of}
-use Rattle.answer.specs.declared.Answer.{Answer}
-use Rattle.answer.specs.declared.Answer.TheVariants as answer
+use Rattle.answer.specs.Number.{number_of, given_or}
+use Rattle.answer.specs.declared.Refusal.{Refusal}
+use Rattle.answer.specs.declared.Refusal.TheVariants as answer
 use Rattle.reed_solomon.specs.Code.{differ, differ_bits}
-use Rattle.reed_solomon.specs.Decode.{changed_by}
+use Rattle.reed_solomon.specs.Decode.{Decoded, changed_by}
 use Rattle.reed_solomon.specs.Marks.{are_marks, DecodesMarked}
 use Rattle.reed_solomon.proofs.Marks.{marks_of_lem}
-use Rattle.reed_solomon.specs.declared.Decoded.{Decoded}
-use Rattle.reed_solomon.specs.declared.Decoded.TheVariants.{Corrected, Uncorrectable, BlockLength, MarkValue}
 use Rattle.reed_solomon.proofs.Laws.{few_changes, total}
 use Rattle.interleaver.specs.declared.branches.Side.TheVariants.{Receiving}
 use Rattle.interleaver.proofs.Blocks.{Good, good_after}
@@ -30,12 +29,11 @@ use Rattle.interleaver.specs.Block.{branches_after}
 use Rattle.group_sync.specs.Group.{sync_in_range, group_step}
 use Rattle.group_sync.proofs.Synchronization.{accepted_outcome, sync_in_range_lem}
 use Rattle.group_sync.specs.declared.GroupSync.{GroupSync}
-use Rattle.group_sync.specs.declared.Outcome.{Outcome}
-use Rattle.group_sync.specs.declared.Outcome.TheVariants.{Filling, Delivered, Lost, Waiting, OutOfStep}
+use Rattle.group_sync.specs.declared.Outcome.TheVariants.{Filling}
 use Rattle.reception_counts.specs.Counts.{outcome_number, counted}
 use Rattle.reception_counts.proofs.Ranges.{CountsRange, counts_in_range_lem, filling_range, lost_range, accepted_range}
 use Rattle.reception_counts.specs.declared.Counts.{Counts}
-use Rattle.receiver.specs.Receive.{fresh_receiver, receiver_in_range, marks_in, delayed_block, delayed_marks, decoding_of, of_accepted, step_of, state_after, output_after, receive_refusal, Ready, receive_number, receive_state, receive_output, ReceivesMarked}
+use Rattle.receiver.specs.Receive.{fresh_receiver, receiver_in_range, marks_in, delayed_block, delayed_marks, decoding_of, of_accepted, step_of, state_after, output_after, receive_refusal, Ready, receive_number, receive_state, receive_output, ReceivesMarked, received_number}
 use Rattle.receiver.specs.Run.{Call, after_call, DecodedCalls, after_calls}
 use Rattle.receiver.specs.declared.Receiver.{Receiver}
 use Rattle.receiver.specs.declared.Received.{Received}
@@ -113,23 +111,23 @@ module _ (s : Receiver) (block marks output left : List ℕ) (decoded : Decoded)
 
 -- ---- a call with what its block decodes to
 
-pub record CallDecoded (s : Receiver) (block marks output : List ℕ) (r : Received) (exit : List ℕ) : Type 0 where
+pub record CallDecoded (s : Receiver) (block marks output : List ℕ) (answer : ℕ) (next : Receiver) (exit : List ℕ) : Type 0 where
   pub left : List ℕ
   pub decoded : Decoded
   pub decodes : DecodesMarked (delayed_marks s marks) (delayed_block s block) left decoded
-  pub number : number_of r.answer ≡ receive_number s block marks output left decoded
-  pub state : r.receiver ≡ receive_state s block marks output left decoded
+  pub number : answer ≡ receive_number s block marks output left decoded
+  pub state : next ≡ receive_state s block marks output left decoded
   pub written : exit ≡ receive_output s block marks output left decoded
 
 -- Every call has one, also where nothing is decoded: decoding is total, and the call is then the same for all that it could leave and answer.
-pub call_decoded : {s : Receiver} {block marks output : List ℕ} {r : Received} {exit : List ℕ} → ReceivesMarked s block marks output r exit
-    → CallDecoded s block marks output r exit
-call_decoded {s} {block} {marks} {output} {r} {exit} m = by (ready_or_refused s block marks output)
+pub call_decoded : {s : Receiver} {block marks output : List ℕ} {answer : ℕ} {next : Receiver} {exit : List ℕ} → ReceivesMarked s block marks output answer next exit
+    → CallDecoded s block marks output answer next exit
+call_decoded {s} {block} {marks} {output} {answer} {next} {exit} m = by (ready_or_refused s block marks output)
   where
-    by : Ready s block marks output ⊎ Refused s block marks output → CallDecoded s block marks output r exit
+    by : Ready s block marks output ⊎ Refused s block marks output → CallDecoded s block marks output answer next exit
     by (inl y) = full (dec_lt s.counts.taken 11)
       where
-        full : Dec (s.counts.taken < 11) → CallDecoded s block marks output r exit
+        full : Dec (s.counts.taken < 11) → CallDecoded s block marks output answer next exit
         full (yes h) =
             let t = total (delayed_marks s marks) (delayed_block s block) in
             record {
@@ -162,16 +160,9 @@ call_decoded {s} {block} {marks} {output} {r} {exit} m = by (ready_or_refused s 
 -- ---- every call has an answer
 
 pub record Called (s : Receiver) (block marks output : List ℕ) : Type 0 where
-  pub received : Received
+  pub result : Result Received Refusal
   pub exit : List ℕ
-  pub receives : ReceivesMarked s block marks output received exit
-
-outcome_answer : (o : Outcome) → (a : Answer) × (number_of a ≡ outcome_number o)
-outcome_answer Filling = (answer.Filling, refl)
-outcome_answer (Delivered place) = (answer.Done, refl)
-outcome_answer Lost = (answer.Uncorrectable, refl)
-outcome_answer Waiting = (answer.WaitingForGroup, refl)
-outcome_answer OutOfStep = (answer.OutOfStep, refl)
+  pub receives : ReceivesMarked s block marks output (received_number result) (given_or s (λ r. r.receiver) result) exit
 
 module _ (s : Receiver) (block marks output : List ℕ) where
   abbrev after_block : GroupSync → Counts → Receiver
@@ -187,49 +178,48 @@ module _ (s : Receiver) (block marks output : List ℕ) where
     where
       by : Dec (s.counts.taken < 11) → Called s block marks output
       by (yes h) = record {
-        received = record { answer = answer.Filling; receiver = after_block s.sync (counted s.counts 9 0 0) };
+        result = Ok (record { outcome = Filling; receiver = after_block s.sync (counted s.counts 9 0 0) });
         exit = output;
         receives =
-            filling_call s block marks output y h answer.Filling (after_block s.sync (counted s.counts 9 0 0)).deinterleaver
-            (after_block s.sync (counted s.counts 9 0 0)).marks (counted s.counts 9 0 0) output refl refl refl refl refl;
+            filling_call s block marks output y h (after_block s.sync (counted s.counts 9 0 0)).deinterleaver
+            (after_block s.sync (counted s.counts 9 0 0)).marks (counted s.counts 9 0 0) output refl refl refl refl;
       }
       by (no h) =
           let t = total (delayed_marks s marks) (delayed_block s block) in
           let g = group_step s.sync (decoding_of t.answer (get_or t.left 0 0)) in
-          let a = outcome_answer g.outcome in
           let n = counted s.counts (outcome_number g.outcome) (changed_by t.answer).bytes (changed_by t.answer).bits in
           record {
-            received = record { answer = a.0; receiver = after_block g.sync n };
+            result = Ok (record { outcome = g.outcome; receiver = after_block g.sync n });
             exit = output_after g.outcome t.left output;
             receives =
-                decoding_call s block marks output y (omega arith) t.left t.answer t.decodes g refl a.0 (after_block g.sync n).deinterleaver
-                (after_block g.sync n).marks n (output_after g.outcome t.left output) a.1 refl refl refl refl;
+                decoding_call s block marks output y (omega arith) t.left t.answer t.decodes g refl (after_block g.sync n).deinterleaver
+                (after_block g.sync n).marks n (output_after g.outcome t.left output) refl refl refl refl;
           }
 
-  called : {r : Received} → ReceivesMarked s block marks output r output → Called s block marks output
-  called {r} v = record { received = r; exit = output; receives = v }
+  called : (refusal : Refusal) → ReceivesMarked s block marks output (number_of refusal) s output → Called s block marks output
+  called refusal v = record { result = Err refusal; exit = output; receives = v }
 
   pub call_exists : Called s block marks output
   call_exists = range (receiver_in_range s) refl
     where
       range : (t : Bool) → receiver_in_range s ≡ t → Called s block marks output
-      range false r = called (refused_range s block marks output r)
+      range false r = called answer.StateRange (refused_range s block marks output r)
       range true r = size (eqb (length block) 204) refl
         where
           size : (t : Bool) → eqb (length block) 204 ≡ t → Called s block marks output
-          size false l = called (refused_length s block marks output r l)
+          size false l = called answer.BlockLength (refused_length s block marks output r l)
           size true l = marked (are_marks marks) refl
             where
               marked : (t : Bool) → are_marks marks ≡ t → Called s block marks output
-              marked false m = called (refused_marks s block marks output r l m)
+              marked false m = called answer.MarkValue (refused_marks s block marks output r l m)
               marked true m = room (ltb (length output) 188) refl
                 where
                   room : (t : Bool) → ltb (length output) 188 ≡ t → Called s block marks output
-                  room true o = called (refused_output s block marks output r l m o)
+                  room true o = called answer.OutputLength (refused_output s block marks output r l m o)
                   room false o = more (ltb s.counts.taken 4294967295) refl
                     where
                       more : (t : Bool) → ltb s.counts.taken 4294967295 ≡ t → Called s block marks output
-                      more false e = called (refused_full s block marks output r l m o e)
+                      more false e = called answer.CountsFull (refused_full s block marks output r l m o e)
                       more true e = ready (ready_or_refused s block marks output)
                         where
                           none : receive_refusal s block marks output ≡ 0
@@ -251,7 +241,7 @@ module _ (s : Receiver) (block marks left : List ℕ) (decoded : Decoded) (g : S
       → CountsRange (counted s.counts (outcome_number (group_step s.sync (decoding_of decoded (get_or left 0 0))).outcome)
       (of_accepted (group_step s.sync (decoding_of decoded (get_or left 0 0))).outcome (differ (delayed_block s block) left))
       (of_accepted (group_step s.sync (decoding_of decoded (get_or left 0 0))).outcome (differ_bits (delayed_block s block) left)))
-  counts_after h (Corrected changed) d =
+  counts_after h (Ok changed) d =
       accepted_outcome
       (λ o. CountsRange (counted s.counts (outcome_number o)
       (of_accepted o (differ (delayed_block s block) left)) (of_accepted o (differ_bits (delayed_block s block) left))))
@@ -260,11 +250,9 @@ module _ (s : Receiver) (block marks left : List ℕ) (decoded : Decoded) (g : S
       more : (number : ℕ) → indicator (eqb number 9) ≡ 0 → indicator (eqb number 8) ≡ 0 → indicator (eqb number 0) + indicator (eqb number 10) + indicator (eqb number 11) ≡ 1
           → CountsRange (counted s.counts number (differ (delayed_block s block) left) (differ_bits (delayed_block s block) left))
       more number =
-          let w = few_changes (delayed_marks s marks) (delayed_block s block) left (Corrected changed) d in
+          let w = few_changes (delayed_marks s marks) (delayed_block s block) left (Ok changed) d in
           accepted_range s.counts number (differ (delayed_block s block) left) (differ_bits (delayed_block s block) left) g.counts h l w.few w.least w.most
-  counts_after h Uncorrectable d = lost_range s.counts g.counts h l
-  counts_after h BlockLength d = lost_range s.counts g.counts h l
-  counts_after h MarkValue d = lost_range s.counts g.counts h l
+  counts_after h (Err _) d = lost_range s.counts g.counts h l
 
   sound_after : Sound (state_after s block marks left decoded)
   unfolding state_after

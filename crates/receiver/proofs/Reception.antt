@@ -9,6 +9,7 @@ use native.Mathlib.Nat.{not-suc-le-zero}
 use native.Mathlib.Omega.{arith}
 use lib.ListN.{length, get_or, take, drop, replicate, take-append-drop, length-drop, length-map}
 use lib.Seq.{take-nil, take_all, get_or-drop, drop-drop}
+use Rattle.std.proofs.Common.{Option, Some}
 use Rattle.common.specs.Lists.{All, Length}
 use Rattle.common.proofs.Lists.{All-at}
 use Rattle.reed_solomon.specs.Code.{differ}
@@ -27,8 +28,6 @@ use Rattle.interleaver.proofs.BlockLists.{length-flatten, flatten_join, All-take
 use Rattle.interleaver.proofs.Gathering.{gathered_front, run_gathered, sent_gathered}
 use Rattle.group_sync.specs.Group.{fresh_sync, known_sync}
 use Rattle.group_sync.specs.Stream.{outcomes, sent_from, delivered_from, before_group}
-use Rattle.group_sync.specs.declared.BlockDecoding.{BlockDecoding}
-use Rattle.group_sync.specs.declared.BlockDecoding.TheVariants as decoding
 use Rattle.group_sync.specs.declared.Outcome.{Outcome}
 use Rattle.group_sync.specs.declared.Outcome.TheVariants.{Filling, Waiting, OutOfStep}
 use Rattle.group_sync.specs.declared.GroupSync.{GroupSync}
@@ -254,7 +253,7 @@ stream_received packets ws l cs b pl rs ds =
 
 -- From a known place, such a block among good ones costs its own packet and no other.
 pub one_odd : (s : Receiver) (cs : List Call) → Unrefused s cs → 11 ≤ s.counts.taken → (n missed a b first : ℕ) → s.sync ≡ known_sync (n % 8) missed
-    → (a ≡ 0 → missed ≡ 0) → (first ≡ 0xB8 → ⊥) → (first ≡ 0x47 → ⊥) → decodings cs ≡ sent_from n a ++ decoding.Accepted first ∷ sent_from (n + a + 1) b
+    → (a ≡ 0 → missed ≡ 0) → (first ≡ 0xB8 → ⊥) → (first ≡ 0x47 → ⊥) → decodings cs ≡ sent_from n a ++ Some first ∷ sent_from (n + a + 1) b
     → ComeTo s cs (delivered_from n a ++ OutOfStep ∷ delivered_from (n + a + 1) b)
 one_odd s cs u h n missed a b first at m f g e =
-    subst (ComeTo s cs) (ap₂ (λ (x : GroupSync) (rs : List BlockDecoding). outcomes x rs) at e ∙ streams.one_odd n missed a b first m f g) (come_to cs s u h)
+    subst (ComeTo s cs) (ap₂ (λ (x : GroupSync) (rs : List (Option ℕ)). outcomes x rs) at e ∙ streams.one_odd n missed a b first m f g) (come_to cs s u h)

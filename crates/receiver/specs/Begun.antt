@@ -1,10 +1,9 @@
 -- What a list of calls comes to by group synchronization alone, and what a fresh receiver makes of a sender's blocks, begun at any of them.
 -- Clauses: document 01, "Receiver"; document 02, P4.
 -- Assumes nothing.
-use Rattle.std.specs.Prelude.{◌≡◌, List, [], ◌∷◌, ◌++◌, map, ℕ, ◌+◌, ◌-◌, length, get_or, take, drop, replicate}
+use Rattle.std.specs.Prelude.{◌≡◌, List, [], ◌∷◌, ◌++◌, map, ℕ, ◌+◌, ◌-◌, length, get_or, take, drop, replicate, Option}
 use Rattle.randomizer.specs.Packet.{derandomized}
 use Rattle.group_sync.specs.Stream.{before_group}
-use Rattle.group_sync.specs.declared.BlockDecoding.{BlockDecoding}
 use Rattle.group_sync.specs.declared.Outcome.{Outcome}
 use Rattle.group_sync.specs.declared.Outcome.TheVariants.{Filling, Delivered, Lost, Waiting, OutOfStep}
 use Rattle.reception_counts.specs.Counts.{outcome_number}
@@ -18,7 +17,7 @@ abbrev pub lefts : List Call → List (List ℕ)
 lefts cs = map (λ c. c.left) cs
 
 -- what it means for the group
-abbrev pub decodings : List Call → List BlockDecoding
+abbrev pub decodings : List Call → List (Option ℕ)
 decodings cs = map (λ c. decoding_of c.decoded (get_or c.left 0 0)) cs
 
 -- the packet that an outcome gives of what decoding left

@@ -1,31 +1,26 @@
 -- What one call of the receiver does: document 01, "Receiver", and document 02, P4 and P11.
 -- Assumes nothing.
-use Rattle.std.specs.Prelude.{◌≡◌, Bool, true, false, List, [], ◌∷◌, ◌++◌, ℕ, ◌≤◌, ◌<◌, ltb, eqb, length, get_or, take, drop, replicate}
+use Rattle.std.specs.Prelude.{◌≡◌, Bool, true, false, List, [], ◌∷◌, ◌++◌, ℕ, ◌≤◌, ◌<◌, ltb, eqb, length, get_or, take, drop, replicate, Option, Some, None, Result, Ok, Err}
 use Rattle.common.specs.Choice.{pick}
 use Rattle.common.specs.Refusal.{unless, when, first_due}
 use Rattle.common.specs.Lists.{largest}
 use Rattle.answer.specs.Number.{number_of}
+use Rattle.answer.specs.declared.Refusal.{Refusal}
 use Rattle.reed_solomon.specs.Code.{differ, differ_bits}
 use Rattle.reed_solomon.specs.Marks.{are_marks, no_marks, DecodesMarked}
-use Rattle.reed_solomon.specs.declared.Decoded.{Decoded}
-use Rattle.reed_solomon.specs.Decode.{decoded_number}
+use Rattle.reed_solomon.specs.Decode.{Decoded}
 use Rattle.randomizer.specs.Packet.{derandomized}
 use Rattle.interleaver.specs.Block.{fresh, block_out, branches_after}
 use Rattle.interleaver.specs.Branch as branch
 use Rattle.interleaver.specs.declared.branches.Branches.{Branches}
 use Rattle.interleaver.specs.declared.branches.Side.TheVariants.{Receiving}
 use Rattle.group_sync.specs.Group.{sync_in_range, fresh_sync, group_step}
-use Rattle.group_sync.specs.declared.BlockDecoding.{BlockDecoding}
-use Rattle.group_sync.specs.declared.BlockDecoding.TheVariants as decoding
 use Rattle.group_sync.specs.declared.Outcome.{Outcome}
 use Rattle.group_sync.specs.declared.Outcome.TheVariants.{Filling, Delivered, Lost, Waiting, OutOfStep}
 use Rattle.group_sync.specs.declared.GroupStep.{GroupStep}
-use Rattle.group_sync.specs.declared.GroupSync.{GroupSync}
 use Rattle.reception_counts.specs.Counts.{zero_counts, counts_in_range, outcome_number, counted}
-use Rattle.reception_counts.specs.declared.Counts.{Counts}
 use Rattle.receiver.specs.declared.Receiver.{Receiver}
 use Rattle.receiver.specs.declared.Received.{Received}
-use Rattle.receiver.specs.declared.Step.{Step}
 
 -- all cells and counts 0, the place not known
 unfoldable pub fresh_receiver : Receiver
@@ -35,15 +30,6 @@ fresh_receiver = record {
   marks = replicate 1122 0;
   sync = fresh_sync;
   counts = zero_counts;
-}
-
--- a receiver of these parts
-abbrev pub receiver_of : List ℕ → List ℕ → List ℕ → GroupSync → Counts → Receiver
-receiver_of cells marks positions sync counts = record {
-  deinterleaver = record { branches = branch.laid cells positions };
-  marks = marks;
-  sync = sync;
-  counts = counts;
 }
 
 -- the marks in the delays lie as the bytes do: they have cells of their own, and share the positions
@@ -73,8 +59,9 @@ abbrev pub delayed_marks : Receiver → List ℕ → List ℕ
 delayed_marks s marks = block_out Receiving (marks_in s) marks
 
 -- what the outer decoder made of a block: a codeword, by its first byte, or none
-abbrev pub decoding_of : Decoded → ℕ → BlockDecoding
-decoding_of decoded first = pick (eqb (decoded_number decoded) 0) (decoding.Accepted first) decoding.Lost
+abbrev pub decoding_of : Decoded → ℕ → Option ℕ
+decoding_of (Ok _) first = Some first
+decoding_of (Err _) first = None
 
 -- What a block comes to, and the place after it. While filling, nothing is corrected and the place is untouched.
 -- Decoding the delayed block left these bytes and this answer.
@@ -137,23 +124,26 @@ receive_state s block marks output left decoded = pick (eqb (receive_refusal s b
 abbrev pub receive_output : Receiver → List ℕ → List ℕ → List ℕ → List ℕ → Decoded → List ℕ
 receive_output s block marks output left decoded = pick (eqb (receive_refusal s block marks output) 0) (output_after (step_of s left decoded).outcome left output) output
 
--- What a call does. Where no test refuses it and the delays are full, the block that the branches give is decoded, with the marks that they give, and the
+-- What a call does: the number of its answer, the receiver after it, and the output. Where no test refuses it and the delays are full, the block that the branches give is decoded, with the marks that they give, and the
 -- call is this function of what that leaves and answers. Elsewhere nothing is decoded, and the function is the same for all that could be left and answered.
 -- Decoding is total and unique, so the call is decided.
-pub record ReceivesMarked (s : Receiver) (block marks output : List ℕ) (r : Received) (exit : List ℕ) : Type 0 where
+pub record ReceivesMarked (s : Receiver) (block marks output : List ℕ) (answer : ℕ) (next : Receiver) (exit : List ℕ) : Type 0 where
   pub left : List ℕ
   pub decoded : Decoded
   pub decodes : receive_refusal s block marks output ≡ 0 → 11 ≤ s.counts.taken → DecodesMarked (delayed_marks s marks) (delayed_block s block) left decoded
-  pub number : number_of r.answer ≡ receive_number s block marks output left decoded
-  pub state : r.receiver ≡ receive_state s block marks output left decoded
+  pub number : answer ≡ receive_number s block marks output left decoded
+  pub state : next ≡ receive_state s block marks output left decoded
   pub written : exit ≡ receive_output s block marks output left decoded
 
 -- A block without marks is one with none: marks that are still in the delays act.
-abbrev pub Receives : Receiver → List ℕ → List ℕ → Received → List ℕ → Type 0
-Receives s block output r exit = ReceivesMarked s block no_marks output r exit
+abbrev pub Receives : Receiver → List ℕ → List ℕ → ℕ → Receiver → List ℕ → Type 0
+Receives s block output answer next exit = ReceivesMarked s block no_marks output answer next exit
 
--- A call by the parts of a receiver: the cells and the marks in the delays before it and after it, and what the step gives.
-abbrev pub ReceivesParts : List ℕ → List ℕ → List ℕ → GroupSync → Counts → List ℕ → List ℕ → List ℕ → Step → List ℕ → List ℕ → List ℕ → Type 0
-ReceivesParts cells held positions sync counts block marks output r cellsAfter held_after exit =
-    ReceivesMarked (receiver_of cells held positions sync counts) block marks output
-    (record { answer = r.answer; receiver = receiver_of cellsAfter held_after r.positions r.sync r.counts }) exit
+-- the number of a call's answer: that of what the block taken came to, or of the refusal
+abbrev pub taken_number : Result Outcome Refusal → ℕ
+taken_number (Ok outcome) = outcome_number outcome
+taken_number (Err refusal) = number_of refusal
+
+abbrev pub received_number : Result Received Refusal → ℕ
+received_number (Ok received) = outcome_number received.outcome
+received_number (Err refusal) = number_of refusal

@@ -8,7 +8,7 @@ use Rattle.common.specs.Lists.{total}
 use Rattle.reed_solomon.specs.Code.{changes}
 use Rattle.reed_solomon.specs.Marks.{no_marks, DecodesMarked}
 use Rattle.reed_solomon.specs.declared.Changed.{Changed}
-use Rattle.reed_solomon.specs.declared.Decoded.{Decoded}
+use Rattle.reed_solomon.specs.Decode.{Decoded}
 use Rattle.reception_counts.specs.declared.Counts.{Counts}
 use Rattle.receiver.specs.Receive.{delayed_block, delayed_marks, receive_number, receive_state, receive_output}
 use Rattle.receiver.specs.declared.Receiver.{Receiver}

@@ -1,23 +1,23 @@
 // The receiving chain: interleaved blocks in, transport packets out. EN 300 421, 4.4, taken backwards.
 #![tactic(auto)]
 
-ghost use Rattle.std.specs.Prelude.{◌≡◌, true, false, ◌≤◌, ltb, length, replicate};
+ghost use Rattle.std.specs.Prelude.{◌≡◌, true, false, ◌≤◌, ltb, length, replicate, OnErr};
 ghost use Rattle.common.specs.Choice.{pick};
 ghost use Rattle.common.specs.Lists.{largest};
-ghost use Rattle.answer.specs.Number.{number_of};
+ghost use Rattle.answer.specs.Number.{given_or};
 ghost use Rattle.group_sync.specs.Group.{sync_in_range, PlaceOf};
 ghost use Rattle.reception_counts.specs.Counts.{counts_in_range, outcome_number};
 ghost use Rattle.reed_solomon.specs.Marks.{no_marks, DecodesMarked};
 ghost use Rattle.interleaver.specs.Branch as branch;
 ghost use Rattle.interleaver.specs.Block.{block_out, branches_after};
-ghost use Rattle.receiver.specs.Receive.{fresh_receiver, receiver_in_range, receiver_of, decoding_of, output_after, Ready, ReceivesMarked, Receives, ReceivesParts};
+ghost use Rattle.receiver.specs.Receive.{fresh_receiver, receiver_in_range, decoding_of, output_after, NoMarks, Ready, ReceivesMarked, Receives, taken_number, received_number};
 
-use answer::Answer;
-use group_sync::{BlockDecoding, GroupSync, Outcome};
+use answer::Refusal;
+use group_sync::{GroupSync, Outcome};
 use interleaver::Deinterleaver;
-use interleaver::branches::{Branches, Side, pass_cells, positions_within};
-use reception_counts::{Counts, count};
-use reed_solomon::Decoded;
+use interleaver::branches::{Side, pass_cells, positions_within};
+use reception_counts::{Counts, count, outcome_number};
+use reed_solomon::Changed;
 
 // A receiver: the delay branches, the marks of the bytes in them, cell by cell, the place in the group, and the counts.
 #[derive(Clone, Copy)]
@@ -28,40 +28,30 @@ pub struct Receiver {
     pub counts: Counts,
 }
 
-// An answer, and the receiver after it.
+// What a block taken came to, and the receiver after it.
 #[derive(Clone, Copy)]
 pub struct Received {
+    pub outcome: Outcome,
     pub receiver: Receiver,
-    pub answer: Answer,
 }
 
-// What decoding means for the group: a codeword by its first byte, or none.
-fn decoding_of(decoded: Decoded, first: u8) -> BlockDecoding
+// The first byte of the codeword that decoding left, if it left one.
+fn codeword_of(decoded: Result<Changed, Refusal>, first: u8) -> Option<u8>
     ensures { result ≡ decoding_of decoded first }
 {
     match decoded {
-        Decoded::Corrected(_) => BlockDecoding::Accepted(first),
-        Decoded::Uncorrectable => BlockDecoding::Lost,
-        Decoded::BlockLength => BlockDecoding::Lost,
-        Decoded::MarkValue => BlockDecoding::Lost,
+        Ok(_) => Some(first),
+        Err(_) => None,
     }
 }
 
-// The answer for what a block came to. A packet is written to the output.
-fn deliver(outcome: Outcome, left: &[u8], output: &mut [u8]) -> Answer
+// Writes the packet that a block came to, if it is one, to the output.
+fn deliver(outcome: Outcome, left: &[u8], output: &mut [u8])
     requires { (PlaceOf outcome) × (length left.now ≡ 204) × (188 ≤ length output.old) }
-    ensures { (number_of result ≡ outcome_number outcome)
-        × (output.new ≡ output_after outcome left.now output.old) }
+    ensures { output.new ≡ output_after outcome left.now output.old }
 {
-    match outcome {
-        Outcome::Filling => Answer::Filling,
-        Outcome::Delivered(place) => {
-            randomizer::derandomize(place, &left[..Receiver::PACKET_LENGTH], output);
-            Answer::Done
-        }
-        Outcome::Lost => Answer::Uncorrectable,
-        Outcome::Waiting => Answer::WaitingForGroup,
-        Outcome::OutOfStep => Answer::OutOfStep,
+    if let Outcome::Delivered(place) = outcome {
+        let _ = randomizer::derandomize(place, &left[..Receiver::PACKET_LENGTH], output);
     }
 }
 
@@ -83,7 +73,7 @@ fn delay_marks(cells: &mut [u8], positions: [u8; 12], marks: &[u8], none: bool, 
 }
 
 // Decodes a block with its marks. Without any it costs what decoding without marks does.
-fn decode_block(block: &mut [u8], marks: &[u8], none: bool) -> Decoded
+fn decode_block(block: &mut [u8], marks: &[u8], none: bool) -> Result<Changed, Refusal>
     requires { none ≡ true → marks.now ≡ no_marks }
     ensures { DecodesMarked marks.now block.old block.new result }
 {
@@ -93,139 +83,96 @@ fn decode_block(block: &mut [u8], marks: &[u8], none: bool) -> Decoded
     reed_solomon::decode_marked(block, marks)
 }
 
-// What taking a block gives: the answer, and the parts of the receiver that are not written in place.
-#[derive(Clone, Copy)]
-pub struct Step {
-    pub answer: Answer,
-    pub positions: [u8; 12],
-    pub sync: GroupSync,
-    pub counts: Counts,
-}
-
-// Takes a block with its marks; none says that no mark comes and none is in the delays.
+// Takes a block with its marks; none says that no mark comes and none is in the delays. A flag and no second function, since all else is the same.
 fn take_block(
-    cells: &mut [u8],
-    held: &mut [u8],
-    positions: [u8; 12],
-    sync: GroupSync,
-    counts: Counts,
+    receiver: &mut Receiver,
     block: &[u8],
     marks: &[u8],
     none: bool,
     output: &mut [u8],
-) -> Step
-    requires { Ready (receiver_of cells.old held.old positions sync counts) block.now marks.now output.old
-        × (length cells.old ≡ 1122)
-        × (length held.old ≡ 1122)
-        × (none ≡ true → (held.old ≡ replicate 1122 0) × (marks.now ≡ no_marks)) }
-    ensures { ReceivesParts cells.old held.old positions sync counts block.now marks.now output.old result cells.new held.new output.new }
+) -> Outcome
+    requires { Ready receiver.old block.now marks.now output.old
+        × (none ≡ true → NoMarks receiver.old × (marks.now ≡ no_marks)) }
+    ensures { ReceivesMarked receiver.old block.now marks.now output.old (outcome_number result) receiver.new output.new }
 {
-    let taken = counts.taken;
+    let positions = receiver.deinterleaver.branches.positions;
     let mut delayed = [0u8; Receiver::BLOCK_LENGTH];
-    let moved = pass_cells(Side::Receiving, cells, positions, block, &mut delayed);
+    let moved = pass_cells(
+        Side::Receiving,
+        &mut receiver.deinterleaver.branches.cells,
+        positions,
+        block,
+        &mut delayed,
+    );
+    receiver.deinterleaver.branches.positions = moved;
     let mut erased = [0u8; Receiver::BLOCK_LENGTH];
-    delay_marks(held, positions, marks, none, &mut erased);
-    if taken < 11 {
-        let counts = count(counts, Outcome::Filling, 0, 0);
-        return Step {
-            answer: Answer::Filling,
-            positions: moved,
-            sync,
-            counts,
-        };
+    delay_marks(&mut receiver.marks, positions, marks, none, &mut erased);
+    if receiver.counts.taken < 11 {
+        receiver.counts = count(receiver.counts, Outcome::Filling, 0, 0);
+        return Outcome::Filling;
     }
     let decoded = decode_block(&mut delayed, &erased, none);
-    let step = sync.step(decoding_of(decoded, delayed[0]));
-    let outcome = step.outcome;
-    let next = step.sync;
-    let changed = decoded.changed();
-    let bytes = changed.bytes;
-    let bits = changed.bits;
-    let counts = count(counts, outcome, bytes as u64, bits as u64);
-    let answer = deliver(outcome, &delayed, output);
-    Step {
-        answer,
-        positions: moved,
-        sync: next,
-        counts,
-    }
+    let step = receiver.sync.step(codeword_of(decoded, delayed[0]));
+    let changed = decoded.unwrap_or(Changed::NONE);
+    receiver.sync = step.sync;
+    receiver.counts = count(
+        receiver.counts,
+        step.outcome,
+        changed.bytes as u64,
+        changed.bits as u64,
+    );
+    deliver(step.outcome, &delayed, output);
+    step.outcome
 }
 
-// Whether no mark comes, where clean says that none is in the delays.
+// Whether no mark comes, where clean says that none is in the delays. Where it does not, the marks are not looked at.
 fn none_at_all(clean: bool, marks: &[u8]) -> bool
     ensures { result ≡ true → (clean ≡ true) × (largest marks.now ≡ 0) }
 {
-    if !clean {
-        return false;
-    }
-    common::largest_of(marks) == 0
+    clean && common::largest_of(marks) == 0
 }
 
-// Takes a block with its marks, by the parts of a receiver: cells and marks in the delays are written in place, so that no state is copied.
+// Takes a block with its marks. The receiver is changed in place, so that no state is copied.
 // valid says whether the receiver is in range, and clean that no mark is in the delays: a caller that takes many blocks tests that once.
-pub fn receive_parts(
-    cells: &mut [u8],
-    held: &mut [u8],
-    positions: [u8; 12],
-    sync: GroupSync,
-    counts: Counts,
+pub fn receive_in_place(
+    receiver: &mut Receiver,
     valid: bool,
     clean: bool,
     block: &[u8],
     marks: &[u8],
     output: &mut [u8],
-) -> Step
-    requires { (valid ≡ receiver_in_range (receiver_of cells.old held.old positions sync counts))
-        × (length cells.old ≡ 1122)
-        × (length held.old ≡ 1122)
-        × (clean ≡ true → held.old ≡ replicate 1122 0) }
-    ensures { ReceivesParts cells.old held.old positions sync counts block.now marks.now output.old result cells.new held.new output.new }
+) -> Result<Outcome, Refusal>
+    requires { (valid ≡ receiver_in_range receiver.old) × (clean ≡ true → NoMarks receiver.old) }
+    ensures received { ReceivesMarked receiver.old block.now marks.now output.old (taken_number result) receiver.new output.new }
+    ensures refused { OnErr result (receiver.new ≡ receiver.old) }
 {
-    let taken = counts.taken;
     if !valid {
-        return Step {
-            answer: Answer::StateRange,
-            positions,
-            sync,
-            counts,
-        };
+        return Err(Refusal::StateRange);
     }
     if block.len() != Receiver::BLOCK_LENGTH {
-        return Step {
-            answer: Answer::BlockLength,
-            positions,
-            sync,
-            counts,
-        };
+        return Err(Refusal::BlockLength);
     }
     if !reed_solomon::are_marks(marks) {
-        return Step {
-            answer: Answer::MarkValue,
-            positions,
-            sync,
-            counts,
-        };
+        return Err(Refusal::MarkValue);
     }
     if output.len() < Receiver::PACKET_LENGTH {
-        return Step {
-            answer: Answer::OutputLength,
-            positions,
-            sync,
-            counts,
-        };
+        return Err(Refusal::OutputLength);
     }
-    if taken >= Counts::MOST {
-        return Step {
-            answer: Answer::CountsFull,
-            positions,
-            sync,
-            counts,
-        };
+    if receiver.counts.taken >= Counts::MOST {
+        return Err(Refusal::CountsFull);
     }
     let none = none_at_all(clean, marks);
-    take_block(
-        cells, held, positions, sync, counts, block, marks, none, output,
-    )
+    Ok(take_block(receiver, block, marks, none, output))
+}
+
+// The number of a call's answer: that of what the block taken came to, or of the refusal.
+pub fn answer_number(taken: Result<Outcome, Refusal>) -> u8
+    ensures { result ≡ taken_number taken }
+{
+    match taken {
+        Ok(outcome) => outcome_number(outcome),
+        Err(refusal) => refusal.number(),
+    }
 }
 
 // Whether the positions are within their branches, the largest of the marks in the delays is a mark, and the place and the counts are in range.
@@ -233,16 +180,7 @@ pub fn receive_parts(
 fn parts_in_range(positions: [u8; 12], most: u8, sync: GroupSync, counts: Counts) -> bool
     ensures { result ≡ pick (branch.positions_within Side.Receiving positions 12) (pick (ltb most 2) (pick (sync_in_range sync) (counts_in_range counts) false) false) false }
 {
-    if !positions_within(Side::Receiving, positions) {
-        return false;
-    }
-    if most >= 2 {
-        return false;
-    }
-    if !sync.in_range() {
-        return false;
-    }
-    counts.in_range()
+    positions_within(Side::Receiving, positions) && most < 2 && sync.in_range() && counts.in_range()
 }
 
 impl Receiver {
@@ -256,15 +194,11 @@ impl Receiver {
     pub fn new() -> Receiver
         ensures { result ≡ fresh_receiver }
     {
-        let deinterleaver = Deinterleaver::new();
-        let marks = [0u8; 1122];
-        let sync = GroupSync::new();
-        let counts = Counts::new();
         Receiver {
-            deinterleaver,
-            marks,
-            sync,
-            counts,
+            deinterleaver: Deinterleaver::new(),
+            marks: [0u8; 1122],
+            sync: GroupSync::new(),
+            counts: Counts::new(),
         }
     }
 
@@ -272,62 +206,39 @@ impl Receiver {
     pub fn in_range(self) -> bool
         ensures { result ≡ receiver_in_range self }
     {
-        let deinterleaver = self.deinterleaver;
-        let branches = deinterleaver.branches;
-        let positions = branches.positions;
-        let marks = self.marks;
-        let sync = self.sync;
-        let counts = self.counts;
-        parts_in_range(positions, common::largest_of(&marks), sync, counts)
+        parts_in_range(
+            self.deinterleaver.branches.positions,
+            common::largest_of(&self.marks),
+            self.sync,
+            self.counts,
+        )
     }
 
     // Takes a block of 204 interleaved bytes with a mark, 0 or 1, for each, and writes the packet that it completes.
-    pub fn receive_marked(self, block: &[u8], marks: &[u8], output: &mut [u8]) -> Received
-        ensures { ReceivesMarked self block.now marks.now output.old result output.new }
+    pub fn receive_marked(
+        self,
+        block: &[u8],
+        marks: &[u8],
+        output: &mut [u8],
+    ) -> Result<Received, Refusal>
+        ensures { ReceivesMarked self block.now marks.now output.old (received_number result) (given_or self (λ r. r.receiver) result) output.new }
     {
-        let deinterleaver = self.deinterleaver;
-        let branches = deinterleaver.branches;
-        let positions = branches.positions;
-        let mut cells = branches.cells;
-        let mut held = self.marks;
-        let sync = self.sync;
-        let counts = self.counts;
-        let most = common::largest_of(&held);
-        let valid = parts_in_range(positions, most, sync, counts);
-        let step = receive_parts(
-            &mut cells,
-            &mut held,
-            positions,
-            sync,
-            counts,
-            valid,
-            most == 0,
-            block,
-            marks,
-            output,
+        let mut receiver = self;
+        let most = common::largest_of(&receiver.marks);
+        let valid = parts_in_range(
+            receiver.deinterleaver.branches.positions,
+            most,
+            receiver.sync,
+            receiver.counts,
         );
-        let answer = step.answer;
-        let positions = step.positions;
-        let sync = step.sync;
-        let counts = step.counts;
-        Received {
-            answer,
-            receiver: Receiver {
-                deinterleaver: Deinterleaver {
-                    branches: Branches { cells, positions },
-                },
-                marks: held,
-                sync,
-                counts,
-            },
-        }
+        let outcome = receive_in_place(&mut receiver, valid, most == 0, block, marks, output)?;
+        Ok(Received { outcome, receiver })
     }
 
     // The same without marks: where none come they are 0. Those that are still in the delays act.
-    pub fn receive(self, block: &[u8], output: &mut [u8]) -> Received
-        ensures { Receives self block.now output.old result output.new }
+    pub fn receive(self, block: &[u8], output: &mut [u8]) -> Result<Received, Refusal>
+        ensures { Receives self block.now output.old (received_number result) (given_or self (λ r. r.receiver) result) output.new }
     {
-        let none = [0u8; Receiver::BLOCK_LENGTH];
-        self.receive_marked(block, &none, output)
+        self.receive_marked(block, &[0u8; Receiver::BLOCK_LENGTH], output)
     }
 }

@@ -11,6 +11,7 @@ use borrow.Author.Tests.{eq-eqb, ne_eqb, ltb-true}
 use lib.Dec.{ltb}
 use lib.ListN.{length, get_or, take, drop, length-append, length-drop}
 use lib.Seq.{length-take-le, take_at, drop_at, take-add, take-take, take-nil, drop-drop}
+use Rattle.std.proofs.Common.{Option, Some, None}
 use Rattle.common.specs.Lists.{All, ByteEntries, placed}
 use Rattle.common.proofs.Entries.{entries_take, entries_drop}
 use Rattle.common.proofs.Choice.{both_true}
@@ -19,8 +20,6 @@ use Rattle.state_bytes.proofs.Copies.{next, last, byte_part, part_byte}
 use Rattle.state_bytes.proofs.Fields.{◌&◌}
 use Rattle.state_bytes.proofs.States.{Reads, stands_found}
 use Rattle.group_sync.specs.Group.{place_in_range}
-use Rattle.group_sync.specs.declared.Place.{Place}
-use Rattle.group_sync.specs.declared.Place.TheVariants.{NotKnown, Known}
 use Rattle.reception_counts.specs.Bytes.{to_bytes, from_bytes, numbers_of, count_bytes, counts_at}
 use Rattle.reception_counts.specs.declared.Counts.{Counts}
 use Rattle.reception_counts.proofs.Numbers.{to_from, from_to_eight, length_to, each_length}
@@ -43,9 +42,9 @@ place_back byte = by (ℕ_discrete byte 8)
     by (no e) = simp (ne_eqb byte 8 e)
 
 -- a place in range is not 8
-place_again : (p : Place) (m : ℕ) → place_in_range p m ≡ true → place_of (place_byte p) ≡ p
-place_again NotKnown m h = refl
-place_again (Known p) m h = let l = ltb-true p 8 (both_true (ltb p 8) (ltb m 2) h).0 in simp (ne_eqb p 8 (λ e. omega arith))
+place_again : (p : Option ℕ) (m : ℕ) → place_in_range p m ≡ true → place_of (place_byte p) ≡ p
+place_again None m h = refl
+place_again (Some p) m h = let l = ltb-true p 8 (both_true (ltb p 8) (ltb m 2) h).0 in simp (ne_eqb p 8 (λ e. omega arith))
 
 -- ---- the eight counts
 

@@ -1,16 +1,14 @@
 -- What the code reads of the bytes of a state. The public contracts do not rest on it: they speak of the receiver for which the bytes stand.
 -- Assumes nothing.
-use Rattle.std.specs.Prelude.{List, ℕ, eqb, get_or}
+use Rattle.std.specs.Prelude.{List, ℕ, eqb, get_or, Option, Some, None}
 use Rattle.common.specs.Choice.{pick}
 use Rattle.state_bytes.specs.Table.{part}
-use Rattle.group_sync.specs.declared.Place.{Place}
-use Rattle.group_sync.specs.declared.Place.TheVariants.{NotKnown, Known}
 use Rattle.reception_counts.specs.Bytes.{counts_at}
 use Rattle.receiver.specs.declared.Receiver.{Receiver}
 use Rattle.receiver_state.specs.State.{cells, positions, place, missed, counts, marks}
 
-abbrev pub place_of : ℕ → Place
-place_of byte = pick (eqb byte 8) NotKnown (Known byte)
+abbrev pub place_of : ℕ → Option ℕ
+place_of byte = pick (eqb byte 8) None (Some byte)
 
 -- the receiver that is read, in range or not
 unfoldable pub state_of : List ℕ → Receiver

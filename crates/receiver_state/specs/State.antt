@@ -1,19 +1,17 @@
 -- The state of a receiver as 2,322 bytes. The layout is a table of fields, and the bytes of a receiver are its fields one after the other.
 -- Clause: document 02, P14.
 -- Assumes nothing.
-use Rattle.std.specs.Prelude.{List, [], ◌∷◌, ℕ}
+use Rattle.std.specs.Prelude.{List, [], ◌∷◌, ℕ, Option, Some, None}
 use Rattle.state_bytes.specs.Table as table
 use Rattle.state_bytes.specs.Table.{Field, field, fields_of}
-use Rattle.group_sync.specs.declared.Place.{Place}
-use Rattle.group_sync.specs.declared.Place.TheVariants.{NotKnown, Known}
 use Rattle.reception_counts.specs.Bytes.{count_bytes}
 use Rattle.receiver.specs.Receive.{receiver_in_range}
 use Rattle.receiver.specs.declared.Receiver.{Receiver}
 
 -- a place in one byte: 8 is the place that is not known
-abbrev pub place_byte : Place → ℕ
-place_byte NotKnown = 8
-place_byte (Known p) = p
+abbrev pub place_byte : Option ℕ → ℕ
+place_byte None = 8
+place_byte (Some p) = p
 
 -- ---- the table
 

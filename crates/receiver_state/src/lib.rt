@@ -7,12 +7,11 @@ ghost use Rattle.std.specs.Prelude.{◌≡◌, ◌++◌, ◌≤◌, length};
 ghost use Rattle.receiver_state.specs.State.{place_byte, state_bytes};
 ghost use Rattle.receiver_state.specs.Reading.{place_of, state_of};
 
-use group_sync::{GroupSync, Place};
+use group_sync::GroupSync;
 use interleaver::Deinterleaver;
 use interleaver::branches::Branches;
 use receiver::Receiver;
 use reception_counts::count_bytes::{counts_at, put_counts};
-use state_bytes::{cells_at, positions_at};
 
 // The first byte of each field, and the length of all of them. The counts are eight numbers of eight bytes.
 const CELLS: usize = 0;
@@ -30,23 +29,16 @@ const MARKS: usize = 1200;
 pub const STATE_LENGTH: usize = 2322;
 
 // 0 to 7 for a place that is known, 8 for one that is not. Greater ones are no places, and the receiver refuses them.
-fn place_of(byte: u8) -> Place
+fn place_of(byte: u8) -> Option<u8>
     ensures { result ≡ place_of byte }
 {
-    if byte == 8 {
-        Place::NotKnown
-    } else {
-        Place::Known(byte)
-    }
+    if byte == 8 { None } else { Some(byte) }
 }
 
-fn place_byte(place: Place) -> u8
+fn place_byte(place: Option<u8>) -> u8
     ensures { result ≡ place_byte place }
 {
-    match place {
-        Place::NotKnown => 8,
-        Place::Known(p) => p,
-    }
+    place.unwrap_or(8)
 }
 
 // The receiver that the first bytes stand for. Whether its numbers are in range is asked by the receiver.
@@ -54,20 +46,19 @@ pub fn read_state(bytes: &[u8]) -> Receiver
     requires { 2322 ≤ length bytes.now }
     ensures { result ≡ state_of bytes.now }
 {
-    let cells = cells_at(bytes, CELLS);
-    let positions = positions_at(bytes, POSITIONS);
-    let branches = Branches { cells, positions };
-    let deinterleaver = Deinterleaver { branches };
-    let place = place_of(bytes[PLACE]);
-    let missed = bytes[MISSED];
-    let sync = GroupSync { place, missed };
-    let counts = counts_at(bytes, COUNTS);
-    let marks = cells_at(bytes, MARKS);
+    let branches = Branches {
+        cells: common::array_at(bytes, CELLS),
+        positions: common::array_at(bytes, POSITIONS),
+    };
+    let sync = GroupSync {
+        place: place_of(bytes[PLACE]),
+        missed: bytes[MISSED],
+    };
     Receiver {
-        deinterleaver,
-        marks,
+        deinterleaver: Deinterleaver { branches },
+        marks: common::array_at(bytes, MARKS),
         sync,
-        counts,
+        counts: counts_at(bytes, COUNTS),
     }
 }
 
@@ -96,16 +87,16 @@ pub fn write_state(receiver: Receiver, bytes: &mut [u8])
     requires { length bytes.old ≡ 2322 }
     ensures { bytes.new ≡ state_bytes receiver }
 {
-    let deinterleaver = receiver.deinterleaver;
-    let branches = deinterleaver.branches;
-    let cells = branches.cells;
-    let positions = branches.positions;
-    let group_sync = receiver.sync;
-    let place = group_sync.place;
-    let sync = [place_byte(place), group_sync.missed];
-    let held = receiver.counts;
-    let marks = receiver.marks;
+    let branches = receiver.deinterleaver.branches;
+    let sync = [place_byte(receiver.sync.place), receiver.sync.missed];
     let mut counts = [0u8; 64];
-    put_counts(held, &mut counts);
-    put_fields(&cells, &positions, &sync, &counts, &marks, bytes);
+    put_counts(receiver.counts, &mut counts);
+    put_fields(
+        &branches.cells,
+        &branches.positions,
+        &sync,
+        &counts,
+        &receiver.marks,
+        bytes,
+    );
 }

@@ -2,21 +2,22 @@
 // whole yet.
 #![tactic(auto)]
 
-ghost use Rattle.std.specs.Prelude.{◌≡◌, ◌++◌, ◌+◌, ◌-◌, ◌*◌, ◌/◌, ◌%◌, ◌≤◌, ◌<◌, length, take};
-ghost use Rattle.answer.specs.Number.{number_of};
+ghost use Rattle.std.specs.Prelude.{◌≡◌, ◌++◌, ◌+◌, ◌-◌, ◌*◌, ◌/◌, ◌%◌, ◌≤◌, ◌<◌, length};
+ghost use Rattle.answer.specs.Number.{answered, given_or};
 ghost use Rattle.common.specs.Choice.{pick};
-ghost use Rattle.common.specs.Lists.{padded};
 ghost use Rattle.recording.specs.Recording.{TakesRecording};
 ghost use Rattle.receiver_stream.specs.Feed.{fresh_receiver_stream, receiver_stream_in_range, capacity_of, bytes_held, held_marks, ReceivesPiece, FeedsReceiver};
 ghost use Rattle.receiver_stream.specs.Reporting.{report_of, Reports};
 
-use answer::Answer;
+use answer::Refusal;
+use common::joined;
 use receiver::Receiver;
 use reception_counts::Counts;
-use recording::Batch;
-use report::{Bits, Report, Written};
+use recording::Recorded;
+use report::{Bits, Report};
 
-// A receiver, and the bytes after the last whole block: how many, and the fronts of the arrays that have them and their marks.
+// A receiver, and the bytes after the last whole block: how many, and the fronts of the arrays that have them and their marks, since no memory is taken
+// for them. That fewer than 204 are held is a fact beside it: the numbers are public, and `in_range` tests them.
 #[derive(Clone, Copy)]
 pub struct ReceiverStream {
     pub receiver: Receiver,
@@ -25,19 +26,11 @@ pub struct ReceiverStream {
     pub held: usize,
 }
 
-// An answer, how many bytes of packets were written, and the stream receiver after it.
-#[derive(Clone, Copy)]
-pub struct ReceiverFed {
-    pub answer: Answer,
-    pub count: usize,
-    pub stream: ReceiverStream,
-}
-
 // How many bytes of packets were written, and the stream receiver after it.
 #[derive(Clone, Copy)]
-struct ReceiverTaken {
-    count: usize,
-    stream: ReceiverStream,
+pub struct ReceiverFed {
+    pub count: usize,
+    pub stream: ReceiverStream,
 }
 
 // How many whole blocks so many bytes held and so many that come make.
@@ -53,17 +46,6 @@ fn whole_blocks(held: usize, length: usize) -> usize
     }
 }
 
-// The first bytes of an array, and those of a piece after them.
-fn joined(pending: [u8; 204], held: usize, piece: &[u8]) -> [u8; 204]
-    requires { held + length piece.now ≤ 204 }
-    ensures { result ≡ padded 204 (take held pending ++ piece.now) }
-{
-    let mut bytes = [0u8; 204];
-    common::put(&pending[..held], 0, &mut bytes);
-    common::put(piece, held, &mut bytes);
-    bytes
-}
-
 // How many bytes complete the block that so many bytes begin: none where there are none.
 fn missing(held: usize) -> usize
     requires { held < 204 }
@@ -73,42 +55,34 @@ fn missing(held: usize) -> usize
 }
 
 // Takes the block that the bytes held begin, where there are any, with the bytes that complete it.
-fn finish_block(stream: ReceiverStream, filler: &[u8], marks: &[u8], output: &mut [u8]) -> Batch
+fn finish_block(stream: ReceiverStream, filler: &[u8], marks: &[u8], output: &mut [u8]) -> Recorded
     requires { (stream.held < 204)
         × (length filler.now ≡ (204 - stream.held) % 204)
         × (length marks.now ≡ length filler.now)
         × (188 * ((stream.held + length filler.now) / 204) ≤ length output.old) }
     ensures { TakesRecording stream.receiver (bytes_held stream ++ filler.now) (held_marks stream ++ marks.now) output.old result.count result.receiver output.new }
 {
-    let receiver = stream.receiver;
-    let pending = stream.pending;
-    let pending_marks = stream.marks;
     let held = stream.held;
     if held == 0 {
-        return Batch { count: 0, receiver };
+        return Recorded {
+            count: 0,
+            receiver: stream.receiver,
+        };
     }
-    let block = joined(pending, held, filler);
-    let own = joined(pending_marks, held, marks);
-    recording::receive_marked_blocks(receiver, &block, &own, output)
+    let block = joined::<204>(&stream.pending[..held], filler);
+    let own = joined::<204>(&stream.marks[..held], marks);
+    recording::receive_marked_blocks(stream.receiver, &block, &own, output)
 }
 
-// Takes a piece that completes at least one block. Only a block that two pieces share is copied; the others are taken where they stand.
-fn take_blocks(
-    stream: ReceiverStream,
-    piece: &[u8],
-    marks: &[u8],
-    output: &mut [u8],
-) -> ReceiverTaken
+// Takes a piece that completes at least one block. Piece, marks and room stay three lists, as the C call gives them. Only a block that two pieces share is copied; the others are taken where they stand.
+fn take_blocks(stream: ReceiverStream, piece: &[u8], marks: &[u8], output: &mut [u8]) -> ReceiverFed
     requires { (stream.held < 204)
         × (204 ≤ stream.held + length piece.now)
         × (length marks.now ≡ length piece.now)
         × (188 * ((stream.held + length piece.now) / 204) ≤ length output.old) }
     ensures { ReceivesPiece stream piece.now marks.now output.old result.count result.stream output.new }
 {
-    let pending = stream.pending;
-    let pending_marks = stream.marks;
-    let held = stream.held;
-    let start = missing(held);
+    let start = missing(stream.held);
     let first = finish_block(stream, &piece[..start], &marks[..start], output);
     let written = first.count;
     let middle = first.receiver;
@@ -122,9 +96,9 @@ fn take_blocks(
     let count = written + batch.count;
     let rest = (piece.len() - start) % Receiver::BLOCK_LENGTH;
     let end = piece.len() - rest;
-    let pending = joined(pending, 0, &piece[end..]);
-    let marks = joined(pending_marks, 0, &marks[end..]);
-    ReceiverTaken {
+    let pending = joined(&[0u8; 0], &piece[end..]);
+    let marks = joined(&[0u8; 0], &marks[end..]);
+    ReceiverFed {
         count,
         stream: ReceiverStream {
             receiver,
@@ -136,28 +110,20 @@ fn take_blocks(
 }
 
 // Takes a piece.
-fn take_piece(
-    stream: ReceiverStream,
-    piece: &[u8],
-    marks: &[u8],
-    output: &mut [u8],
-) -> ReceiverTaken
+fn take_piece(stream: ReceiverStream, piece: &[u8], marks: &[u8], output: &mut [u8]) -> ReceiverFed
     requires { (stream.held < 204)
         × (length marks.now ≡ length piece.now)
         × (188 * ((stream.held + length piece.now) / 204) ≤ length output.old) }
     ensures { ReceivesPiece stream piece.now marks.now output.old result.count result.stream output.new }
 {
-    let receiver = stream.receiver;
-    let pending = stream.pending;
-    let pending_marks = stream.marks;
     let held = stream.held;
     if piece.len() < Receiver::BLOCK_LENGTH - held {
-        let pending = joined(pending, held, piece);
-        let marks = joined(pending_marks, held, marks);
-        return ReceiverTaken {
+        let pending = joined(&stream.pending[..held], piece);
+        let marks = joined(&stream.marks[..held], marks);
+        return ReceiverFed {
             count: 0,
             stream: ReceiverStream {
-                receiver,
+                receiver: stream.receiver,
                 pending,
                 marks,
                 held: held + piece.len(),
@@ -189,13 +155,10 @@ impl ReceiverStream {
     pub fn new() -> ReceiverStream
         ensures { result ≡ fresh_receiver_stream }
     {
-        let receiver = Receiver::new();
-        let pending = [0u8; 204];
-        let marks = [0u8; 204];
         ReceiverStream {
-            receiver,
-            pending,
-            marks,
+            receiver: Receiver::new(),
+            pending: [0; 204],
+            marks: [0; 204],
             held: 0,
         }
     }
@@ -204,30 +167,17 @@ impl ReceiverStream {
     pub fn in_range(self) -> bool
         ensures { result ≡ receiver_stream_in_range self }
     {
-        let receiver = self.receiver;
-        let held = self.held;
-        if !receiver.in_range() {
-            return false;
-        }
-        held < Receiver::BLOCK_LENGTH
+        self.receiver.in_range() && self.held < Receiver::BLOCK_LENGTH
     }
 
     // How many bytes more can be taken: those of the blocks that can be counted. None where a number is out of range.
     pub fn capacity(self) -> u64
         ensures { result ≡ pick (receiver_stream_in_range self) (capacity_of self) 0 }
     {
-        let receiver = self.receiver;
-        let counts = receiver.counts;
-        let taken = counts.taken;
-        let held = self.held as u64;
         if !self.in_range() {
             return 0;
         }
-        let bytes = 204 * (Counts::MOST - taken);
-        if bytes < held {
-            return 0;
-        }
-        bytes - held
+        (204 * (Counts::MOST - self.receiver.counts.taken)).saturating_sub(self.held as u64)
     }
 
     // How many bytes came after the last whole block: 0 to 203.
@@ -238,61 +188,31 @@ impl ReceiverStream {
     }
 
     // Takes a piece of the received bytes, of any length, with a mark for each, and writes the packets of the blocks that are whole then.
-    pub fn feed(self, piece: &[u8], marks: &[u8], output: &mut [u8]) -> ReceiverFed
-        ensures { FeedsReceiver self piece.now marks.now output.old (number_of result.answer) result.count result.stream output.new }
+    pub fn feed(self, piece: &[u8], marks: &[u8], output: &mut [u8]) -> Result<ReceiverFed, Refusal>
+        ensures { FeedsReceiver self piece.now marks.now output.old (answered result) (given_or 0 (λ s. s.count) result) (given_or self (λ s. s.stream) result) output.new }
     {
-        let held = self.held;
         if !self.in_range() {
-            return ReceiverFed {
-                answer: Answer::StateRange,
-                count: 0,
-                stream: self,
-            };
+            return Err(Refusal::StateRange);
         }
         if !recording::are_marks_for(piece, marks) {
-            return ReceiverFed {
-                answer: Answer::MarkValue,
-                count: 0,
-                stream: self,
-            };
+            return Err(Refusal::MarkValue);
         }
-        if output.len() < Receiver::PACKET_LENGTH * whole_blocks(held, piece.len()) {
-            return ReceiverFed {
-                answer: Answer::OutputLength,
-                count: 0,
-                stream: self,
-            };
+        if output.len() < Receiver::PACKET_LENGTH * whole_blocks(self.held, piece.len()) {
+            return Err(Refusal::OutputLength);
         }
         if self.capacity() < piece.len() as u64 {
-            return ReceiverFed {
-                answer: Answer::CountsFull,
-                count: 0,
-                stream: self,
-            };
+            return Err(Refusal::CountsFull);
         }
-        let taken = take_piece(self, piece, marks, output);
-        let count = taken.count;
-        let stream = taken.stream;
-        ReceiverFed {
-            answer: Answer::Done,
-            count,
-            stream,
-        }
+        Ok(take_piece(self, piece, marks, output))
     }
 
-    // Writes the pass report of all that came.
-    pub fn report(self, output: &mut [u8]) -> Written
-        ensures { Reports self output.old (number_of result.answer) result.length output.new }
+    // Writes the pass report of all that came. Gives how many bytes were written.
+    pub fn report(self, output: &mut [u8]) -> Result<usize, Refusal>
+        ensures { Reports self output.old (answered result) (given_or 0 (λ n. n) result) output.new }
     {
-        let receiver = self.receiver;
-        let counts = receiver.counts;
-        let held = self.held;
         if !self.in_range() {
-            return Written {
-                answer: Answer::StateRange,
-                length: 0,
-            };
+            return Err(Refusal::StateRange);
         }
-        report::write_report(report_of(counts, held as u64), output)
+        report::write_report(report_of(self.receiver.counts, self.held as u64), output)
     }
 }

@@ -2,7 +2,7 @@
 -- Assumes nothing.
 use mathlib.Core.Path.{◌≡◌, refl, sym, ap, ap₂, ◌∙◌}
 use mathlib.Core.List.{List, [], ◌∷◌, ◌++◌, append_assoc, append-nil, map, flatten}
-use Prim.Native.Nat.{ℕ, zero, suc, ◌+◌, ◌*◌, ◌/◌, ◌%◌, ◌≤◌, ◌<◌}
+use Prim.Native.Nat.{ℕ, zero, suc, ◌+◌, ◌*◌, ◌/◌, ◌%◌, ◌<◌}
 use native.Mathlib.Omega.{arith}
 use lib.ListN.{length, get_or, length-append}
 use Rattle.common.specs.Lists.{ByteEntries}
@@ -49,23 +49,6 @@ pub length_to : (size n : ℕ) → length (to_bytes size n) ≡ size
 unfolding to_bytes
 length_to zero n = refl
 length_to (suc size) n = ap suc (length_to size (n / 256))
-
-one_more : (b n m : ℕ) → b < 256 → n < m → b + 256 * n < 256 * m
-one_more b n m h k = omega arith
-
-limit_positive : (size : ℕ) → 0 < limit size
-limit_positive zero = omega arith
-limit_positive (suc size) = let h = limit_positive size in omega arith
-
-from_below : (size : ℕ) (bytes : List ℕ) → ByteEntries bytes → length bytes ≤ size → from_bytes bytes < limit size
-unfolding from_bytes
-from_below zero [] e h = omega arith
-from_below zero (b ∷ bytes) e h = absurd (omega arith)
-from_below (suc size) [] e h = limit_positive (suc size)
-from_below (suc size) (b ∷ bytes) e h = one_more b (from_bytes bytes) (limit size) (e 0) (from_below size bytes (λ i. e (suc i)) (omega arith))
-
-pub from_below_seven : (bytes : List ℕ) → ByteEntries bytes → length bytes ≤ 7 → from_bytes bytes < 72057594037927936
-from_below_seven bytes e h = from_below 7 bytes e h
 
 -- ---- the bytes of numbers
 

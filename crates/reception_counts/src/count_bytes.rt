@@ -1,6 +1,6 @@
 // Numbers as bytes and back, and the counts of a receiver so. The lowest byte comes first.
 // Inner: its functions may require what the crates above have tested. docs/ARCHITECTURE.md names the public surface.
-ghost use Rattle.std.specs.Prelude.{◌≡◌, ◌++◌, ◌+◌, ◌*◌, ◌≤◌, ◌<◌, length, take, drop};
+ghost use Rattle.std.specs.Prelude.{◌≡◌, ◌++◌, ◌+◌, ◌≤◌, length, take, drop};
 ghost use Rattle.common.specs.Lists.{placed};
 ghost use Rattle.reception_counts.specs.Bytes.{to_bytes, from_bytes, count_bytes, counts_at};
 
@@ -12,10 +12,8 @@ pub fn put_number(number: u64, at: usize, output: &mut [u8])
     requires { at + 8 ≤ length output.old }
     ensures { output.new ≡ placed output.old at (to_bytes 8 number) }
 {
-    let mut k: usize = 0;
-    while k < 8 {
+    for k in 0..8 {
         output[at + k] = byte_at(number, k);
-        k += 1;
     }
 }
 
@@ -34,19 +32,9 @@ pub fn put_counts(counts: Counts, output: &mut [u8])
         counts.changed,
         counts.bits,
     ];
-    let mut i: usize = 0;
-    while i < 8 {
+    for i in 0..8 {
         put_number(numbers[i], 8 * i, output);
-        i += 1;
     }
-}
-
-// A byte below a number.
-fn join(low: u8, high: u64) -> u64
-    requires { high < 72057594037927936 }
-    ensures { result ≡ low + 256 * high }
-{
-    low as u64 + 256 * high
 }
 
 // The number in eight bytes, from a place on.
@@ -54,13 +42,7 @@ pub fn number_at(bytes: &[u8], at: usize) -> u64
     requires { at + 8 ≤ length bytes.now }
     ensures { result ≡ from_bytes (take 8 (drop at bytes.now)) }
 {
-    let mut number: u64 = 0;
-    let mut left: usize = 8;
-    while 0 < left {
-        left -= 1;
-        number = join(bytes[at + left], number);
-    }
-    number
+    u64::from_le_bytes(common::array_at(bytes, at))
 }
 
 // The eight counts, from a place on.

@@ -7,7 +7,6 @@ ghost use Rattle.reception_counts.specs.Counts.{CountsFit, zero_counts, counts_i
 
 pub mod count_bytes;
 
-use common::least;
 use group_sync::Outcome;
 
 // How many blocks were taken, what each of them came to, and how many bytes and bits were changed in the accepted ones.
@@ -75,7 +74,7 @@ impl Counts {
         if filling + delivered + lost + waiting + outofstep != taken {
             return false;
         }
-        if filling != least(taken, 11) {
+        if filling != taken.min(11) {
             return false;
         }
         if changed > 16 * (delivered + waiting + outofstep) {
@@ -88,30 +87,43 @@ impl Counts {
     }
 }
 
+// The number that document 01 gives a block by what it came to.
+pub fn outcome_number(outcome: Outcome) -> u8
+    ensures { result ≡ outcome_number outcome }
+{
+    match outcome {
+        Outcome::Filling => 9,
+        Outcome::Delivered(_) => 0,
+        Outcome::Lost => 8,
+        Outcome::Waiting => 10,
+        Outcome::OutOfStep => 11,
+    }
+}
+
 // The counts after a block that came to this, with so many bytes and bits changed.
 pub fn count(counts: Counts, outcome: Outcome, changed: u64, bits: u64) -> Counts
     requires { CountsFit counts changed bits }
     ensures { result ≡ counted counts (outcome_number outcome) changed bits }
 {
     let mut next = counts;
-    next.taken = next.taken + 1;
-    next.changed = next.changed + changed;
-    next.bits = next.bits + bits;
+    next.taken += 1;
+    next.changed += changed;
+    next.bits += bits;
     match outcome {
         Outcome::Filling => {
-            next.filling = next.filling + 1;
+            next.filling += 1;
         }
         Outcome::Delivered(_) => {
-            next.delivered = next.delivered + 1;
+            next.delivered += 1;
         }
         Outcome::Lost => {
-            next.lost = next.lost + 1;
+            next.lost += 1;
         }
         Outcome::Waiting => {
-            next.waiting = next.waiting + 1;
+            next.waiting += 1;
         }
         Outcome::OutOfStep => {
-            next.outofstep = next.outofstep + 1;
+            next.outofstep += 1;
         }
     }
     next

@@ -6,17 +6,17 @@ use mathlib.Core.List.{List, [], ◌∷◌, ◌++◌, append_assoc, append-nil, 
 use Prim.Native.Nat.{ℕ, ◌+◌, ◌≤◌}
 use Prim.{tt}
 use native.Mathlib.Omega.{arith}
+use Rattle.std.proofs.Common.{Ok, Err}
 use borrow.Author.Tests.{le-ltb}
 use lib.Dec.{eqb}
 use lib.ListN.{length, get_or, length-append}
 use Rattle.common.specs.Lists.{All, Length}
-use Rattle.answer.specs.Number.{number_of}
+use Rattle.answer.specs.Number.{answered}
+use Rattle.answer.specs.declared.Refusal.TheVariants.{Uncorrectable, BlockLength}
 use Rattle.reed_solomon.specs.Code.{changes, no_change}
-use Rattle.reed_solomon.specs.Decode.{Decodes, decoded_number, changed_by}
+use Rattle.reed_solomon.specs.Decode.{Decoded, Decodes, changed_by}
 use Rattle.reed_solomon.specs.Marks.{no_marks, DecodesMarked}
 use Rattle.reed_solomon.specs.declared.Changed.{Changed}
-use Rattle.reed_solomon.specs.declared.Decoded.{Decoded}
-use Rattle.reed_solomon.specs.declared.Decoded.TheVariants.{Corrected, Uncorrectable, BlockLength, MarkValue}
 use Rattle.reed_solomon.proofs.Laws.{unique}
 use Rattle.interleaver.specs.Block as block
 use Rattle.interleaver.specs.Block.{fresh, block_out}
@@ -35,13 +35,11 @@ use Rattle.reception_counts.specs.Counts.{outcome_number}
 use Rattle.receiver.specs.Receive.{fresh_receiver, NoMarks, delayed_block, delayed_marks, decoding_of, of_accepted, step_of, state_after, Ready, Receives}
 use Rattle.receiver.specs.Run.{Call, after_call, after_calls, lent_blocks, Plain}
 use Rattle.receiver.specs.declared.Receiver.{Receiver}
-use Rattle.receiver.specs.declared.Received.{Received}
 use Rattle.receiver.proofs.Calls.{state_range, ready_number, ready_state, ready_refusal, changed_is}
 use Rattle.receiver.proofs.Outcomes.{Unrefused, next_unrefused, branches_after_lem, taken_after, unmarked_after}
 use Rattle.receiver.proofs.MarkDelays.{none_decodes}
 use Rattle.receiver.proofs.Reception.{blocks_count}
 use Rattle.recording.specs.Block.{block_refusal, output_with, GivesBlock, block_refused, block_decoded}
-use Rattle.recording.specs.declared.block.DecodedBlock.{DecodedBlock}
 
 -- the branches after calls that are not refused
 branches_calls : (cs : List Call) (s : Receiver) → Unrefused s cs
@@ -105,7 +103,7 @@ module _ (p : ℕ) (before : List Call) (u : Unrefused fresh_receiver before) (p
       ∙ ap (λ (x : List ℕ). gathered x p) front
 
   -- The call, where no test refuses it.
-  module _ (lent exit' : List ℕ) (received : Received) (v : Receives (after_calls fresh_receiver before) came lent received exit')
+  module _ (lent exit' : List ℕ) (number : ℕ) (next : Receiver) (v : Receives (after_calls fresh_receiver before) came lent number next exit')
       (y : Ready (after_calls fresh_receiver before) came no_marks lent) where
     past : Receiver
     past = after_calls fresh_receiver before
@@ -128,13 +126,13 @@ module _ (p : ℕ) (before : List Call) (u : Unrefused fresh_receiver before) (p
     gathers = call_gathered
 
     -- so the block, the counts and the answer are those of that call's decoding
-    pub as_receiver : (blocks : ℕ) (output : List ℕ) (r : DecodedBlock) (exit : List ℕ) → block_refusal recorded blocks p output ≡ 0 → GivesBlock recorded blocks p output r exit
-        → (number_of r.answer ≡ decoded_number v.decoded) × (r.changed ≡ changed_by v.decoded) × (exit ≡ output_with v.decoded v.left output)
+    pub as_receiver : (blocks : ℕ) (output : List ℕ) (r : Decoded) (exit : List ℕ) → block_refusal recorded blocks p output ≡ 0 → GivesBlock recorded blocks p output r exit
+        → (answered r ≡ answered v.decoded) × (changed_by r ≡ changed_by v.decoded) × (exit ≡ output_with v.decoded v.left output)
     as_receiver blocks output r exit e (block_refused h n c w) = absurd (omega arith)
-    as_receiver blocks output r exit e (block_decoded left decoded f d n c w) =
-        let q = unique (gathered recorded p) left v.left decoded v.decoded d (subst (λ (x : List ℕ). Decodes x v.left v.decoded) gathers plain) in (
-          n ∙ ap decoded_number q.answer,
-          c ∙ ap changed_by q.answer,
+    as_receiver blocks output r exit e (block_decoded left f d w) =
+        let q = unique (gathered recorded p) left v.left r v.decoded d (subst (λ (x : List ℕ). Decodes x v.left v.decoded) gathers plain) in (
+          ap answered q.answer,
+          ap changed_by q.answer,
           w ∙ ap₂ (λ (x : Decoded) (y : List ℕ). output_with x y output) q.answer q.block,
         )
 
@@ -146,39 +144,39 @@ module _ (p : ℕ) (before : List Call) (u : Unrefused fresh_receiver before) (p
     unfolding past outcome
     stepped = simp (le-ltb _ _ full)
 
-    answered : number_of received.answer ≡ outcome_number (outcome v.decoded)
+    number_is : number ≡ outcome_number (outcome v.decoded)
     unfolding past
-    answered = v.number ∙ ready_number past came no_marks lent y v.left v.decoded ∙ ap outcome_number stepped
+    number_is = v.number ∙ ready_number past came no_marks lent y v.left v.decoded ∙ ap outcome_number stepped
 
     -- a block that is accepted is not answered 8, and one that is not accepted is
     lost_or_not : (decoded : Decoded) → Decodes (delayed_block past came) v.left decoded
-        → eqb (outcome_number (outcome decoded)) 8 ≡ eqb (decoded_number decoded) 8
+        → eqb (outcome_number (outcome decoded)) 8 ≡ eqb (answered decoded) 8
     unfolding past outcome
-    lost_or_not (Corrected changed) d =
+    lost_or_not (Ok changed) d =
         accepted_outcome (λ o. eqb (outcome_number o) 8 ≡ false) past.sync (get_or v.left 0 0) (λ q l. refl) refl refl (state_range past y.range).sync
-    lost_or_not Uncorrectable d = refl
-    lost_or_not BlockLength d = absurd (d.0 (length_out Receiving past.deinterleaver.branches came))
-    lost_or_not MarkValue d = absurd d
+    lost_or_not (Err Uncorrectable) d = refl
+    lost_or_not (Err BlockLength) d = absurd (d.0 (length_out Receiving past.deinterleaver.branches came))
+    lost_or_not (Err _) d = absurd d
 
     -- What the call shows of it: it is answered 8 where the block is, and its sums of changed bytes and bits grow by the block's.
-    module _ (blocks : ℕ) (output : List ℕ) (r : DecodedBlock) (exit : List ℕ) (e : block_refusal recorded blocks p output ≡ 0) (g : GivesBlock recorded blocks p output r exit) where
-      pub lost_as_received : eqb (number_of r.answer) 8 ≡ eqb (number_of received.answer) 8
+    module _ (blocks : ℕ) (output : List ℕ) (r : Decoded) (exit : List ℕ) (e : block_refusal recorded blocks p output ≡ 0) (g : GivesBlock recorded blocks p output r exit) where
+      pub lost_as_received : eqb (answered r) 8 ≡ eqb (number) 8
       unfolding past
       lost_as_received =
           ap (λ (k : ℕ). eqb k 8) (as_receiver blocks output r exit e g).0
-          ∙ sym (ap (λ (k : ℕ). eqb k 8) answered ∙ lost_or_not v.decoded plain)
+          ∙ sym (ap (λ (k : ℕ). eqb k 8) number_is ∙ lost_or_not v.decoded plain)
 
       -- of each number of changes, what the call adds to its sum is the block's
       added : (f : Changed → ℕ) → f no_change ≡ 0
-          → of_accepted (step_of past v.left v.decoded).outcome (f (changes (delayed_block past came) v.left)) ≡ f r.changed
+          → of_accepted (step_of past v.left v.decoded).outcome (f (changes (delayed_block past came) v.left)) ≡ f (changed_by r)
       unfolding past outcome
       added f z =
           ap (λ (o : Outcome). of_accepted o (f (changes (delayed_block past came) v.left))) stepped
           ∙ sym (changed_is past came no_marks lent y f z v.left v.decoded decodes)
           ∙ sym (ap f (as_receiver blocks output r exit e g).1)
 
-      pub changed_as_received : (received.receiver.counts.changed ≡ (after_calls fresh_receiver before).counts.changed + r.changed.bytes)
-          × (received.receiver.counts.bits ≡ (after_calls fresh_receiver before).counts.bits + r.changed.bits)
+      pub changed_as_received : (next.counts.changed ≡ (after_calls fresh_receiver before).counts.changed + (changed_by r).bytes)
+          × (next.counts.bits ≡ (after_calls fresh_receiver before).counts.bits + (changed_by r).bits)
       unfolding past state_after
       changed_as_received =
           let s = v.state ∙ ready_state past came no_marks lent y v.left v.decoded in (

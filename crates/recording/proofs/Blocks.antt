@@ -5,30 +5,24 @@ use mathlib.Core.List.{List, ◌++◌}
 use Prim.Native.Nat.{ℕ, ◌+◌, ◌-◌, ◌*◌, ◌≤◌, ◌<◌, min}
 use native.Mathlib.Decide.{dec_lt}
 use native.Mathlib.Omega.{arith}
-use borrow.Author.Tests.{eq-eqb, ne_eqb, lt-ltb, le-ltb}
+use Rattle.std.proofs.Common.{Ok}
+use borrow.Author.Tests.{eq-eqb, lt-ltb, le-ltb}
 use lib.Dec.{eqb, ltb}
 use lib.ListN.{length, get_or, take, drop, length-take, length-drop}
 use lib.Seq.{get_or-take, get_or-drop}
 use Rattle.common.specs.Choice.{pick}
-use Rattle.answer.specs.Number.{number_of}
-use Rattle.reed_solomon.specs.Code.{no_change}
-use Rattle.reed_solomon.specs.Decode.{Decodes, decoded_number, changed_by}
+use Rattle.answer.specs.Number.{answered}
+use Rattle.reed_solomon.specs.Decode.{Decoded, Decodes, changed_by}
 use Rattle.reed_solomon.specs.declared.Changed.{Changed}
-use Rattle.reed_solomon.specs.declared.Decoded.{Decoded}
-use Rattle.reed_solomon.specs.declared.Decoded.TheVariants.{Corrected}
 use Rattle.reed_solomon.proofs.Codewords.{codeword_length}
 use Rattle.reed_solomon.proofs.Laws.{unique}
 use Rattle.interleaver.specs.Gathered.{place_in, gathered}
 use Rattle.interleaver.proofs.Gathering.{gathered_same}
 use Rattle.recording.specs.Block.{block_count, block_refusal, output_with, GivesBlock, block_refused, block_decoded, Agree, part_at, SameBlock}
-use Rattle.recording.specs.declared.block.DecodedBlock.{DecodedBlock}
 
 -- ---- the tests
 
 module _ (bytes : List ℕ) (blocks p : ℕ) (output : List ℕ) where
-  pub not_its_count : (blocks ≡ block_count bytes → ⊥) → block_refusal bytes blocks p output ≡ 5
-  not_its_count h = simp (ne_eqb _ _ h)
-
   module _ (b : blocks ≡ block_count bytes) where
     pub no_such_block : min blocks 4294967295 < p + 12 → block_refusal bytes blocks p output ≡ 16
     no_such_block h = simp (eq-eqb _ _ b, lt-ltb _ _ h)
@@ -36,24 +30,11 @@ module _ (bytes : List ℕ) (blocks p : ℕ) (output : List ℕ) where
     past_tests : p + 12 ≤ min blocks 4294967295 → block_refusal bytes blocks p output ≡ pick (ltb (length output) 204) 4 0
     past_tests h = simp (eq-eqb _ _ b, le-ltb _ _ h)
 
-    pub output_short : p + 12 ≤ min blocks 4294967295 → length output < 204 → block_refusal bytes blocks p output ≡ 4
-    output_short h l = past_tests h ∙ simp (lt-ltb _ _ l)
-
     pub no_refusal : p + 12 ≤ min blocks 4294967295 → 204 ≤ length output → block_refusal bytes blocks p output ≡ 0
     no_refusal h l = past_tests h ∙ simp (le-ltb _ _ l)
+    -- ---- what the call gives
 
-  -- ---- what the call gives
-
-  pub refused_with : (k : ℕ) (r : DecodedBlock) → block_refusal bytes blocks p output ≡ k → 0 < k → number_of r.answer ≡ k → r.changed ≡ no_change
-      → GivesBlock bytes blocks p output r output
-  refused_with k r e h n c = block_refused (omega arith) (n ∙ sym e) c refl
-
-  pub given_block : block_refusal bytes blocks p output ≡ 0 → (left : List ℕ) (decoded : Decoded) → Decodes (gathered bytes p) left decoded
-      → (r : DecodedBlock) (exit : List ℕ) → number_of r.answer ≡ decoded_number decoded → r.changed ≡ changed_by decoded
-      → exit ≡ output_with decoded left output → GivesBlock bytes blocks p output r exit
-  given_block e left decoded d r exit n c w = block_decoded left decoded e d n c w
-
-pub put_front : (came left output : List ℕ) (changed : Changed) → Decodes came left (Corrected changed)
+pub put_front : (came left output : List ℕ) (changed : Changed) → Decodes came left (Ok changed)
     → take 0 output ++ left ++ drop (0 + length left) output ≡ left ++ drop 204 output
 put_front came left output changed d =
     let e : 0 + length left ≡ 204 = omega (arith, codeword_length left d.1.codeword) in
@@ -62,23 +43,23 @@ put_front came left output changed d =
 -- ---- which bytes matter
 
 -- the call is decided by its refusal and by the 204 bytes gathered
-same_block : (a b : List ℕ) (blocks more p q : ℕ) (output : List ℕ) (r s : DecodedBlock) (x y : List ℕ)
+same_block : (a b : List ℕ) (blocks more p q : ℕ) (output : List ℕ) (r s : Decoded) (x y : List ℕ)
     → block_refusal a blocks p output ≡ block_refusal b more q output → gathered a p ≡ gathered b q
     → GivesBlock a blocks p output r x → GivesBlock b more q output s y → SameBlock r s x y
 same_block a b blocks more p q output r s x y f g (block_refused h n c w) (block_refused k m d v) =
     record { number = n ∙ f ∙ sym m; changed = c ∙ sym d; written = w ∙ sym v }
-same_block a b blocks more p q output r s x y f g (block_refused h n c w) (block_decoded left decoded e k m d v) = absurd (omega arith)
-same_block a b blocks more p q output r s x y f g (block_decoded left decoded e h n c w) (block_refused k m d v) = absurd (omega arith)
-same_block a b blocks more p q output r s x y f g (block_decoded l i e h n c w) (block_decoded j z o k m d v) =
-    let u = unique (gathered b q) l j i z (rw g at h) k in
+same_block a b blocks more p q output r s x y f g (block_refused h n c w) (block_decoded left e k v) = absurd (omega arith)
+same_block a b blocks more p q output r s x y f g (block_decoded left e h w) (block_refused k m d v) = absurd (omega arith)
+same_block a b blocks more p q output r s x y f g (block_decoded l e h w) (block_decoded j o k v) =
+    let u = unique (gathered b q) l j r s (rw g at h) k in
     record {
-      number = n ∙ ap decoded_number u.answer ∙ sym m;
-      changed = c ∙ ap changed_by u.answer ∙ sym d;
+      number = ap answered u.answer;
+      changed = ap changed_by u.answer;
       written = w ∙ ap₂ (λ (t : Decoded) (y : List ℕ). output_with t y output) u.answer u.block ∙ sym v;
     }
 
 -- two recordings with the same number of whole blocks that agree in those 204 bytes give the same
-pub agreeing : (a b : List ℕ) (blocks p : ℕ) (output : List ℕ) (r s : DecodedBlock) (x y : List ℕ) → block_count a ≡ block_count b → Agree a b p
+pub agreeing : (a b : List ℕ) (blocks p : ℕ) (output : List ℕ) (r s : Decoded) (x y : List ℕ) → block_count a ≡ block_count b → Agree a b p
     → GivesBlock a blocks p output r x → GivesBlock b blocks p output s y → SameBlock r s x y
 agreeing a b blocks p output r s x y e g h k =
     same_block a b blocks blocks p p output r s x y
@@ -89,7 +70,7 @@ agreeing a b blocks p output r s x y e g h k =
 
 -- Block p of a recording is block 0 of that part, so a file need not be read from its start. Where there is no such block, there is
 -- none in the part either.
-pub by_seeking : (bytes : List ℕ) (p : ℕ) (output : List ℕ) (r s : DecodedBlock) (x y : List ℕ) → p + 12 ≤ 4294967295
+pub by_seeking : (bytes : List ℕ) (p : ℕ) (output : List ℕ) (r s : Decoded) (x y : List ℕ) → p + 12 ≤ 4294967295
     → GivesBlock bytes (block_count bytes) p output r x → GivesBlock (part_at bytes p) (block_count (part_at bytes p)) 0 output s y → SameBlock r s x y
 by_seeking bytes p output r s x y m g k =
     same_block bytes (part_at bytes p) (block_count bytes) (block_count (part_at bytes p)) p 0 output r s x y (by (dec_lt (length bytes) (204 * p + 2448)))

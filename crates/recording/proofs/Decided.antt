@@ -16,9 +16,9 @@ use Rattle.common.proofs.Chunks.{chunks_whole}
 use Rattle.common.proofs.Entries.{entries_take, entries_drop, entries_append}
 use Rattle.common.proofs.Largest.{largest_most}
 use Rattle.common.proofs.Lists.{zeros_at}
-use Rattle.answer.specs.Number.{number_of}
+use Rattle.answer.specs.Number.{given_or}
 use Rattle.reed_solomon.specs.Marks.{are_marks, no_marks, DecodesMarked}
-use Rattle.reed_solomon.specs.declared.Decoded.{Decoded}
+use Rattle.reed_solomon.specs.Decode.{Decoded}
 use Rattle.reed_solomon.proofs.Laws.{unique_marked}
 use Rattle.randomizer.specs.Packet.{derandomized}
 use Rattle.interleaver.specs.declared.branches.Side.TheVariants.{Receiving}
@@ -27,7 +27,7 @@ use Rattle.group_sync.specs.Group.{PlaceOf}
 use Rattle.group_sync.specs.declared.Outcome.{Outcome}
 use Rattle.group_sync.specs.declared.Outcome.TheVariants.{Filling, Delivered, Lost, Waiting, OutOfStep}
 use Rattle.reception_counts.specs.Counts.{outcome_number}
-use Rattle.receiver.specs.Receive.{delayed_block, delayed_marks, step_of, state_after, output_after, receive_refusal, Ready}
+use Rattle.receiver.specs.Receive.{delayed_block, delayed_marks, step_of, state_after, output_after, receive_refusal, Ready, received_number}
 use Rattle.receiver.specs.Run.{Call, DecodedCalls, answer_of, after_call, output_of, after_calls, OutputFits, lent_blocks, packets_given}
 use Rattle.receiver.specs.declared.Receiver.{Receiver}
 use Rattle.receiver.proofs.Calls.{ready_number, ready_state, ready_output, left_length}
@@ -199,11 +199,12 @@ packet_fits = omega (arith, length-replicate 188 zero)
 more_total : (s : Receiver) (bytes marks : List ℕ) → 204 ≤ length bytes → ((t : Receiver) → RecordingOf t (drop 204 bytes) (drop 204 marks)) → RecordingOf s bytes marks
 more_total s bytes marks h f =
     let c = call_exists s (take 204 bytes) (block_marks marks) (replicate 188 zero) in
-    let r = f c.received.receiver in
+    let next = given_or s (λ x. x.receiver) c.result in
+    let r = f next in
     record {
-      packets = given_from (number_of c.received.answer) c.exit ++ r.packets;
+      packets = given_from (received_number c.result) c.exit ++ r.packets;
       last = r.last;
-      recording = call (replicate 188 zero) c.exit c.received h packet_fits c.receives r.recording;
+      recording = call (replicate 188 zero) c.exit (received_number c.result) next h packet_fits c.receives r.recording;
     }
 
 blocks_total : (n : ℕ) (s : Receiver) (bytes marks : List ℕ) → length bytes / 204 ≡ n → RecordingOf s bytes marks

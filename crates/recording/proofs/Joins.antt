@@ -12,7 +12,6 @@ use lib.Seq.{take_at, drop_at, drop-drop, take-append-le, drop-append-le}
 use Rattle.common.specs.Choice.{pick}
 use Rattle.common.specs.Lists.{rest_of}
 use Rattle.common.proofs.Chunks.{length-chunks, rest_few, rest_more}
-use Rattle.answer.specs.Number.{number_of}
 use Rattle.interleaver.proofs.BlockLists.{flatten_join}
 use Rattle.receiver.specs.Run.{Call, answer_of, output_of, after_call, packets_given}
 use Rattle.receiver.specs.declared.Receiver.{Receiver}
@@ -31,19 +30,19 @@ pub recording_join : {s middle last : Receiver} {a m : List ℕ} (b k : List ℕ
     → Recording middle (rest_of 204 a ++ b) (rest_of 204 m ++ k) q last → Recording s (a ++ b) (m ++ k) (p ++ q) last
 recording_join {s} {last = last} {a} {m} b k {q = q} each (over h) g =
     subst₂ (λ (x y : List ℕ). Recording s (x ++ b) (y ++ k) q last) (rest_few 204 (omega arith) a h) (rest_few 204 (omega arith) m (omega (arith, each))) g
-recording_join {s} {middle} {last} {a} {m} b k {q = q} each (call {packets = packets} output exit r h o v t) g =
+recording_join {s} {middle} {last} {a} {m} b k {q = q} each (call {packets = packets} output exit number next h o v t) g =
     let l : 204 ≤ length m = omega (arith, each) in
-    let given = pick (eqb (number_of r.answer) 0) (take 188 exit ∷ []) [] in
+    let given = pick (eqb number 0) (take 188 exit ∷ []) [] in
     let own : block_marks m ≡ block_marks (m ++ k) = marks_front_lem m l ∙ sym (marks_front_lem (m ++ k) (omega (arith, length-append m k)) ∙ take-append-le 204 m k l) in
-    let w : ReceivesMarked s (take 204 (a ++ b)) (block_marks (m ++ k)) output r exit
-    = subst₂ (λ (x y : List ℕ). ReceivesMarked s x y output r exit) (sym (take-append-le 204 a b h)) own v in
+    let w : ReceivesMarked s (take 204 (a ++ b)) (block_marks (m ++ k)) output number next exit
+    = subst₂ (λ (x y : List ℕ). ReceivesMarked s x y output number next exit) (sym (take-append-le 204 a b h)) own v in
     let f : Recording middle (rest_of 204 (drop 204 a) ++ b) (rest_of 204 (drop 204 m) ++ k) q last
     = subst₂ (λ (x y : List ℕ). Recording middle (x ++ b) (y ++ k) q last) (rest_more 204 (omega arith) a h) (rest_more 204 (omega arith) m l) g in
     let u = recording_join b k (omega (arith, length-drop 204 a, length-drop 204 m, each)) t f in
-    let n : Recording r.receiver (drop 204 (a ++ b)) (drop 204 (m ++ k)) (packets ++ q) last
-    = subst₂ (λ (x y : List ℕ). Recording r.receiver x y (packets ++ q) last) (sym (drop-append-le 204 a b h)) (sym (drop-append-le 204 m k l)) u in
+    let n : Recording next (drop 204 (a ++ b)) (drop 204 (m ++ k)) (packets ++ q) last
+    = subst₂ (λ (x y : List ℕ). Recording next x y (packets ++ q) last) (sym (drop-append-le 204 a b h)) (sym (drop-append-le 204 m k l)) u in
     subst (λ (x : List (List ℕ)). Recording s (a ++ b) (m ++ k) x last) (sym (append_assoc given packets q))
-    (call output exit r (omega (arith, length-append a b)) o w n)
+    (call output exit number next (omega (arith, length-append a b)) o w n)
 
 -- fewer bytes than a block
 pub takes_few : (s : Receiver) (bytes marks output : List ℕ) → length bytes < 204 → TakesRecording s bytes marks output 0 s output

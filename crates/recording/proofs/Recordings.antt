@@ -16,7 +16,6 @@ use lib.Seq.{take_all, take_at, take-append-le, drop_at, drop-drop, drop-nil}
 use Rattle.common.specs.Choice.{pick}
 use Rattle.common.specs.Lists.{All, chunks_of}
 use Rattle.common.proofs.Chunks.{chunks_few, chunks_more}
-use Rattle.answer.specs.Number.{number_of}
 use Rattle.reed_solomon.specs.Marks.{no_marks, DecodesMarked}
 use Rattle.randomizer.specs.Packet.{derandomized}
 use Rattle.interleaver.specs.declared.branches.Side.TheVariants.{Receiving}
@@ -30,7 +29,6 @@ use Rattle.reception_counts.specs.Counts.{outcome_number}
 use Rattle.receiver.specs.Receive.{NoMarks, receiver_in_range, delayed_block, delayed_marks, decoding_of, step_of, output_after, receive_refusal, Ready, ReceivesMarked}
 use Rattle.receiver.specs.Run.{Call, answer_of, output_of, DecodedCalls, after_calls, packets_given, lent_blocks, Plain, OutputFits}
 use Rattle.receiver.specs.declared.Receiver.{Receiver}
-use Rattle.receiver.specs.declared.Received.{Received}
 use Rattle.receiver.proofs.Calls.{state_range, ready_number, ready_output, left_length}
 use Rattle.receiver.proofs.Reached.{Refused, ready_or_refused, call_decoded}
 use Rattle.receiver.proofs.Parts.{Sized, kept_by, still_none}
@@ -48,13 +46,6 @@ MarkedBy marks (c ∷ cs) = (c.marks ≡ block_marks marks) × MarkedBy (drop 20
 pub none_marked : (cs : List Call) → MarkedBy [] cs → All Plain cs
 none_marked [] m = tt
 none_marked (c ∷ cs) m = (m.0, none_marked cs m.1)
-
-pub marks_none : (marks : List ℕ) (at : ℕ) → length marks ≡ 0 → block_marks (drop at marks) ≡ no_marks
-marks_none marks at h = ap block_marks (drop_of_length-le marks {i = at} (omega arith))
-
--- the block from a byte on
-pub one_block : (l : List ℕ) (at : ℕ) → take (at + 204 - at) (drop at l) ≡ take 204 (drop at l)
-one_block l at = let e : at + 204 - at ≡ 204 = omega arith in ap (λ (k : ℕ). take k (drop at l)) e
 
 -- there is one for each byte
 pub marks_front_lem : (marks : List ℕ) → 204 ≤ length marks → block_marks marks ≡ take 204 marks
@@ -85,7 +76,7 @@ recorded_calls {bytes = bytes} (over h) = record {
   given = refl;
   state = refl;
 }
-recorded_calls {s} {bytes = bytes} {marks = marks} (call output exit r h o v k) =
+recorded_calls {s} {bytes = bytes} {marks = marks} (call output exit number next h o v k) =
     let d = call_decoded v in
     let c : Call = record { block = take 204 bytes; marks = block_marks marks; output = output; left = d.left; decoded = d.decoded } in
     let t = recorded_calls k in
@@ -188,13 +179,6 @@ module _ {first : Receiver} {bytes marks output₀ output : List ℕ} {s : Recei
         written = p.written;
       }
 
-  pub progress_fits : count ≤ length output
-  progress_fits = omega (arith, ap length p.written, length-append (flatten p.front) (drop count output₀), p.counted)
-
-  pub progress_length : length output ≡ length output₀
-  progress_length =
-      omega (arith, ap length p.written, length-append (flatten p.front) (drop count output₀), length-drop count output₀, p.counted, p.enough)
-
   front_output : take count output ≡ flatten p.front
   front_output = ap (take count) p.written ∙ take_at (flatten p.front) (drop count output₀) count p.counted
 
@@ -202,30 +186,27 @@ module _ {first : Receiver} {bytes marks output₀ output : List ℕ} {s : Recei
   back_output = ap (drop count) p.written ∙ drop_at (flatten p.front) (drop count output₀) count p.counted
 
   module _ (h : 204 ≤ length bytes - at) where
-    pub progress_count : (number : ℕ) → count + given_bytes number ≤ length output₀
-    progress_count number = omega (arith, p.enough, few_given number, h)
-
     -- a call on this block and the rest of the output
-    module _ {r : Received} {exit : List ℕ}
-        (m : ReceivesMarked s (take 204 (drop at bytes)) (block_marks (drop at marks)) (mid_of count (length output - count) output) r exit) where
-      kept : ReceivesMarked s (take 204 (drop at bytes)) (block_marks (drop at marks)) (drop count output) r exit
+    module _ {number : ℕ} {next : Receiver} {exit : List ℕ}
+        (m : ReceivesMarked s (take 204 (drop at bytes)) (block_marks (drop at marks)) (mid_of count (length output - count) output) number next exit) where
+      kept : ReceivesMarked s (take 204 (drop at bytes)) (block_marks (drop at marks)) (drop count output) number next exit
       kept =
-          subst (λ (b : List ℕ). ReceivesMarked s (take 204 (drop at bytes)) (block_marks (drop at marks)) b r exit)
+          subst (λ (b : List ℕ). ReceivesMarked s (take 204 (drop at bytes)) (block_marks (drop at marks)) b number next exit)
           (take_all (length output - count) (drop count output) (omega (arith, length-drop count output))) m
 
-      filled : Filled (number_of r.answer) (drop count output) exit
+      filled : Filled number (drop count output) exit
       filled =
           let d = call_decoded kept in
           let c : Call = record { block = take 204 (drop at bytes); marks = block_marks (drop at marks); output = drop count output; left = d.left; decoded = d.decoded } in
           subst₂ (λ (n : ℕ) (x : List ℕ). Filled n (drop count output) x) (sym d.number) (sym d.written) (call_filled s c d.decodes)
 
-      more : Progress first bytes marks output₀ (put_mid count (length output - count) output exit) r.receiver (at + 204) (count + given_bytes (number_of r.answer))
+      more : Progress first bytes marks output₀ (put_mid count (length output - count) output exit) next (at + 204) (count + given_bytes number)
       more =
-          let n = given_bytes (number_of r.answer) in
-          let g = given_from (number_of r.answer) exit in
+          let n = given_bytes number in
+          let g = given_from number exit in
           record {
             within = omega (arith, h);
-            enough = omega (arith, p.enough, few_given (number_of r.answer), h);
+            enough = omega (arith, p.enough, few_given number, h);
             front = p.front ++ g;
             counted =
                 ap length (flatten_join p.front g) ∙ length-append (flatten p.front) (flatten g)
@@ -237,17 +218,17 @@ module _ {first : Receiver} {bytes marks output₀ output : List ℕ} {s : Recei
                 ∙ sym (append_assoc (flatten p.front) (flatten g) (drop (count + n) output₀))
                 ∙ ap (λ (l : List ℕ). l ++ drop (count + n) output₀) (sym (flatten_join p.front g));
             further = λ packets last t.
-                let u : Recording r.receiver (drop 204 (drop at bytes)) (drop 204 (drop at marks)) packets last =
-                subst₂ (λ (b m : List ℕ). Recording r.receiver b m packets last) (sym (drop-drop 204 at bytes)) (sym (drop-drop 204 at marks)) t in
+                let u : Recording next (drop 204 (drop at bytes)) (drop 204 (drop at marks)) packets last =
+                subst₂ (λ (b m : List ℕ). Recording next b m packets last) (sym (drop-drop 204 at bytes)) (sym (drop-drop 204 at marks)) t in
                 let v : Recording s (drop at bytes) (drop at marks) (g ++ packets) last =
-                call {bytes = drop at bytes} (drop count output) exit r (omega (arith, length-drop at bytes)) (omega (arith, ap length back_output, length-drop count output₀, p.enough, h)) kept u in
+                call {bytes = drop at bytes} (drop count output) exit number next (omega (arith, length-drop at bytes)) (omega (arith, ap length back_output, length-drop count output₀, p.enough, h)) kept u in
                 subst (λ (x : List (List ℕ)). Recording first bytes marks x last) (sym (append_assoc p.front g packets)) (p.further (g ++ packets) last v);
           }
 
-      pub progress_more : {n : ℕ} → n ≡ given_bytes (number_of r.answer)
-          → Progress first bytes marks output₀ (put_mid count (length output - count) output exit) r.receiver (at + 204) (count + n)
+      pub progress_more : {n : ℕ} → n ≡ given_bytes number
+          → Progress first bytes marks output₀ (put_mid count (length output - count) output exit) next (at + 204) (count + n)
       progress_more e =
-          subst (λ (k : ℕ). Progress first bytes marks output₀ (put_mid count (length output - count) output exit) r.receiver (at + 204) (count + k)) (sym e) more
+          subst (λ (k : ℕ). Progress first bytes marks output₀ (put_mid count (length output - count) output exit) next (at + 204) (count + k)) (sym e) more
 
 -- the same, with what is known of the receiver: it is as much in range as at the start, and where no marks come, clean says that none is in the delays
 pub record Taking (first : Receiver) (bytes marks output₀ output : List ℕ) (s : Receiver) (at count : ℕ) (valid clean : Bool) : Type 0 where
@@ -261,19 +242,19 @@ block_none : (marks : List ℕ) (at : ℕ) → length marks ≡ 0 → block_mark
 block_none [] at e = ap block_marks (drop-nil {A = ℕ} at)
 block_none (m ∷ ms) at e = absurd (omega arith)
 
-pub taking_more : {first : Receiver} {bytes marks output₀ output : List ℕ} {s : Receiver} {at count : ℕ} {valid clean : Bool} {r : Received} {exit : List ℕ} {n : ℕ}
+pub taking_more : {first : Receiver} {bytes marks output₀ output : List ℕ} {s : Receiver} {at count : ℕ} {valid clean : Bool} {number : ℕ} {next : Receiver} {exit : List ℕ} {n : ℕ}
     → Taking first bytes marks output₀ output s at count valid clean → 204 ≤ length bytes - at → (still : Bool) → (still ≡ true → NoMarks s)
-    → ReceivesMarked s (take 204 (drop at bytes)) (block_marks (drop at marks)) (mid_of count (length output - count) output) r exit
-    → n ≡ given_bytes (number_of r.answer)
-    → Taking first bytes marks output₀ (put_mid count (length output - count) output exit) r.receiver (at + 204) (count + n) valid still
-taking_more {first} {bytes} {marks} {output₀} {output} {s} {at} {count} {valid} {clean} {r} {exit} {n} t h still none m e =
+    → ReceivesMarked s (take 204 (drop at bytes)) (block_marks (drop at marks)) (mid_of count (length output - count) output) number next exit
+    → n ≡ given_bytes number
+    → Taking first bytes marks output₀ (put_mid count (length output - count) output exit) next (at + 204) (count + n) valid still
+taking_more {first} {bytes} {marks} {output₀} {output} {s} {at} {count} {valid} {clean} {number} {next} {exit} {n} t h still none m e =
     let block = take 204 (drop at bytes) in
     let own = block_marks (drop at marks) in
     let room = mid_of count (length output - count) output in
-    let k = kept_by s block own room r exit t.sized m in
+    let k = kept_by s block own room number next exit t.sized m in
     record {
       progress = progress_more t.progress h m e;
       sized = k.sized;
       range = t.range ∙ k.range;
-      none = λ z c. still_none s block own room r exit t.sized m (none c) (block_none marks at z);
+      none = λ z c. still_none s block own room number next exit t.sized m (none c) (block_none marks at z);
     }

@@ -1,14 +1,11 @@
 -- One block of a recording, corrected: document 02, P5.
 -- Assumes nothing.
-use Rattle.std.specs.Prelude.{◌≡◌, List, [], ◌∷◌, ◌++◌, ℕ, ◌+◌, ◌*◌, ◌/◌, ◌<◌, min, ltb, eqb, length, get_or, take, drop}
+use Rattle.std.specs.Prelude.{◌≡◌, List, [], ◌∷◌, ◌++◌, ℕ, ◌+◌, ◌*◌, ◌/◌, ◌<◌, min, ltb, eqb, length, get_or, take, drop, Ok, Err}
 use Rattle.common.specs.Refusal.{unless, when, first_due}
-use Rattle.common.specs.Choice.{pick}
-use Rattle.answer.specs.Number.{number_of}
+use Rattle.answer.specs.Number.{answered}
 use Rattle.reed_solomon.specs.Code.{no_change}
-use Rattle.reed_solomon.specs.Decode.{Decodes, decoded_number, changed_by}
-use Rattle.reed_solomon.specs.declared.Decoded.{Decoded}
+use Rattle.reed_solomon.specs.Decode.{Decoded, Decodes, changed_by}
 use Rattle.interleaver.specs.Gathered.{place_in, gathered}
-use Rattle.recording.specs.declared.block.DecodedBlock.{DecodedBlock}
 
 -- how many whole blocks a recording has
 abbrev pub block_count : List ℕ → ℕ
@@ -21,14 +18,15 @@ block_refusal bytes blocks p output =
 
 -- the output after the work: a codeword is written to its front
 abbrev pub output_with : Decoded → List ℕ → List ℕ → List ℕ
-output_with decoded left output = pick (eqb (decoded_number decoded) 0) (left ++ drop 204 output) output
+output_with (Ok changed) left output = left ++ drop 204 output
+output_with (Err refusal) left output = output
 
 -- The first test that fails is the answer, and all is as it was; or the 204 bytes gathered decode to this. Decoding is unique, so the call is decided.
-pub data GivesBlock (bytes : List ℕ) (blocks p : ℕ) (output : List ℕ) (r : DecodedBlock) (exit : List ℕ) : Type 0 where
-  block_refused : 0 < block_refusal bytes blocks p output → number_of r.answer ≡ block_refusal bytes blocks p output → r.changed ≡ no_change → exit ≡ output
+pub data GivesBlock (bytes : List ℕ) (blocks p : ℕ) (output : List ℕ) (r : Decoded) (exit : List ℕ) : Type 0 where
+  block_refused : 0 < block_refusal bytes blocks p output → answered r ≡ block_refusal bytes blocks p output → changed_by r ≡ no_change → exit ≡ output
       → GivesBlock bytes blocks p output r exit
-  block_decoded : (left : List ℕ) (decoded : Decoded) → block_refusal bytes blocks p output ≡ 0 → Decodes (gathered bytes p) left decoded
-      → number_of r.answer ≡ decoded_number decoded → r.changed ≡ changed_by decoded → exit ≡ output_with decoded left output → GivesBlock bytes blocks p output r exit
+  block_decoded : (left : List ℕ) → block_refusal bytes blocks p output ≡ 0 → Decodes (gathered bytes p) left r → exit ≡ output_with r left output
+      → GivesBlock bytes blocks p output r exit
 
 -- two recordings agree in the 204 bytes that block p depends on
 abbrev pub Agree : List ℕ → List ℕ → ℕ → Type 0
@@ -39,7 +37,7 @@ abbrev pub part_at : List ℕ → ℕ → List ℕ
 part_at bytes p = take 2448 (drop (204 * p) bytes)
 
 -- two calls give the same answer, counts and output
-pub record SameBlock (r s : DecodedBlock) (x y : List ℕ) : Type 0 where
-  pub number : number_of r.answer ≡ number_of s.answer
-  pub changed : r.changed ≡ s.changed
+pub record SameBlock (r s : Decoded) (x y : List ℕ) : Type 0 where
+  pub number : answered r ≡ answered s
+  pub changed : changed_by r ≡ changed_by s
   pub written : x ≡ y

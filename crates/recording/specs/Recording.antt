@@ -6,11 +6,9 @@ use mathlib.Core.List.{List, [], ◌∷◌, ◌++◌, flatten}
 use Rattle.common.specs.Choice.{pick}
 use Rattle.common.specs.Refusal.{Test, unless, when, first_due}
 use Rattle.common.specs.Lists.{largest}
-use Rattle.answer.specs.Number.{number_of}
 use Rattle.reed_solomon.specs.Marks.{no_marks}
 use Rattle.receiver.specs.Receive.{receiver_in_range, ReceivesMarked}
 use Rattle.receiver.specs.declared.Receiver.{Receiver}
-use Rattle.receiver.specs.declared.Received.{Received}
 
 -- the marks of the first block: 0 where none come
 abbrev pub block_marks : List ℕ → List ℕ
@@ -21,9 +19,9 @@ block_marks marks = take 204 (marks ++ no_marks)
 -- the receiver after the calls.
 pub data Recording : Receiver → List ℕ → List ℕ → List (List ℕ) → Receiver → Type 0 where
   over : {s : Receiver} {bytes marks : List ℕ} → length bytes < 204 → Recording s bytes marks [] s
-  call : {s last : Receiver} {bytes marks : List ℕ} {packets : List (List ℕ)} (output exit : List ℕ) (r : Received) → 204 ≤ length bytes → 188 ≤ length output
-      → ReceivesMarked s (take 204 bytes) (block_marks marks) output r exit → Recording r.receiver (drop 204 bytes) (drop 204 marks) packets last
-      → Recording s bytes marks (pick (eqb (number_of r.answer) 0) (take 188 exit ∷ []) [] ++ packets) last
+  call : {s last : Receiver} {bytes marks : List ℕ} {packets : List (List ℕ)} (output exit : List ℕ) (number : ℕ) (next : Receiver) → 204 ≤ length bytes → 188 ≤ length output
+      → ReceivesMarked s (take 204 bytes) (block_marks marks) output number next exit → Recording next (drop 204 bytes) (drop 204 marks) packets last
+      → Recording s bytes marks (pick (eqb number 0) (take 188 exit ∷ []) [] ++ packets) last
 
 -- the packets stand in the output, one after the other, and count is how many bytes they are
 pub record TakesRecording (s : Receiver) (bytes marks output : List ℕ) (count : ℕ) (last : Receiver) (exit : List ℕ) : Type 0 where

@@ -3,26 +3,16 @@ ghost use Rattle.std.specs.Prelude.{◌≡◌, ◌+◌, ◌*◌, ◌≤◌, leng
 ghost use Rattle.interleaver.specs.Gathered.{gathered};
 ghost use Rattle.recording.specs.Block.{block_count, GivesBlock};
 
-use answer::Answer;
-use common::least;
-use reed_solomon::{Changed, Decoded};
-
-// The answer, and what was changed.
-#[derive(Clone, Copy)]
-pub struct DecodedBlock {
-    pub answer: Answer,
-    pub changed: Changed,
-}
+use answer::Refusal;
+use reed_solomon::Changed;
 
 // Copies the 204 bytes that the block depends on.
 fn gather(bytes: &[u8], p: usize, block: &mut [u8])
     requires { (204 * (p + 12) ≤ length bytes.now) × (length block.old ≡ 204) }
     ensures { block.new ≡ gathered bytes.now p }
 {
-    let mut n: usize = 0;
-    while n < 204 {
+    for n in 0..204 {
         block[n] = bytes[204 * (p + n % 12) + n];
-        n += 1;
     }
 }
 
@@ -34,59 +24,30 @@ pub fn whole_blocks(bytes: &[u8]) -> u64
 }
 
 // Block p of a recording that is said to have so many whole blocks, corrected into the output.
-pub fn decoded_block(bytes: &[u8], blocks: u64, p: u64, output: &mut [u8]) -> DecodedBlock
+pub fn decoded_block(
+    bytes: &[u8],
+    blocks: u64,
+    p: u64,
+    output: &mut [u8],
+) -> Result<Changed, Refusal>
     ensures { GivesBlock bytes.now blocks p output.old result output.new }
 {
     if blocks != whole_blocks(bytes) {
-        return DecodedBlock {
-            answer: Answer::StateRange,
-            changed: Changed { bytes: 0, bits: 0 },
-        };
+        return Err(Refusal::StateRange);
     }
     // No sum here wraps, whatever p is.
-    let most = least(blocks, 4294967295);
-    if most < 12 {
-        return DecodedBlock {
-            answer: Answer::NoSuchBlock,
-            changed: Changed { bytes: 0, bits: 0 },
-        };
-    }
-    if most - 12 < p {
-        return DecodedBlock {
-            answer: Answer::NoSuchBlock,
-            changed: Changed { bytes: 0, bits: 0 },
-        };
+    let most = blocks.min(4294967295);
+    if most < 12 || most - 12 < p {
+        return Err(Refusal::NoSuchBlock);
     }
     if output.len() < 204 {
-        return DecodedBlock {
-            answer: Answer::OutputLength,
-            changed: Changed { bytes: 0, bits: 0 },
-        };
+        return Err(Refusal::OutputLength);
     }
     let mut block = [0u8; 204];
     gather(bytes, p as usize, &mut block);
-    let decoded = reed_solomon::decode(&mut block);
-    match decoded {
-        Decoded::Corrected(changed) => {
-            common::put(&block, 0, output);
-            DecodedBlock {
-                answer: Answer::Done,
-                changed,
-            }
-        }
-        Decoded::Uncorrectable => DecodedBlock {
-            answer: Answer::Uncorrectable,
-            changed: Changed { bytes: 0, bits: 0 },
-        },
-        Decoded::BlockLength => DecodedBlock {
-            answer: Answer::BlockLength,
-            changed: Changed { bytes: 0, bits: 0 },
-        },
-        Decoded::MarkValue => DecodedBlock {
-            answer: Answer::MarkValue,
-            changed: Changed { bytes: 0, bits: 0 },
-        },
-    }
+    let changed = reed_solomon::decode(&mut block)?;
+    common::put(&block, 0, output);
+    Ok(changed)
 }
 
 // A recording that remembers how many whole blocks it has.
@@ -101,12 +62,14 @@ impl<'a> RecordingView<'a> {
     pub fn new(bytes: &'a [u8]) -> RecordingView<'a>
         ensures { (result.bytes ≡ bytes.entry) × (result.blocks ≡ block_count bytes.now) }
     {
-        let blocks = whole_blocks(bytes);
-        RecordingView { bytes, blocks }
+        RecordingView {
+            bytes,
+            blocks: whole_blocks(bytes),
+        }
     }
 
     // Block p, corrected into the output.
-    pub fn block(self, p: u64, output: &mut [u8]) -> DecodedBlock
+    pub fn block(self, p: u64, output: &mut [u8]) -> Result<Changed, Refusal>
         ensures { GivesBlock self.entry.bytes.now self.entry.blocks p output.old result output.new }
     {
         decoded_block(self.bytes, self.blocks, p, output)

@@ -7,13 +7,16 @@ use mathlib.Core.Logic.{◌⊎◌, inl, inr}
 use Prim.Native.Nat.{ℕ, ◌*◌, ◌≤◌, ◌<◌}
 use native.Mathlib.Decide.{dec_lt}
 use native.Mathlib.Omega.{arith}
+use Rattle.std.proofs.Common.{Err}
 use borrow.Author.Tests.{eq-eqb, ne_eqb, ltb-false}
 use lib.Dec.{eqb, ltb}
 use lib.IntN.{pos}
 use lib.ListN.{length, take, replicate}
 use lib.Seq.{length-take-le}
 use Rattle.common.specs.Choice.{pick}
-use Rattle.answer.specs.Number.{number_of}
+use Rattle.answer.specs.Number as numbers
+use Rattle.answer.specs.declared.Refusal.{Refusal}
+use Rattle.answer.specs.declared.Refusal.TheVariants.{Uncorrectable, BlockLength}
 use Rattle.program_io.specs.Checksum.{no_bytes, traced}
 use Rattle.program_io.specs.Words.{digits, value_from, sized, parsed}
 use Rattle.program_io.specs.Files.{origin_argument, origin_start, input_ended, input_failed, output_failed, output_trace, OpenedInput, FreshOutput, Fills}
@@ -25,10 +28,10 @@ use Rattle.program_io.specs.declared.output.Output.{Output}
 use Rattle.program_io.specs.declared.input.Filled.{Filled}
 use Rattle.program_io.specs.declared.calls.Asked.{Asked}
 use Rattle.program_io.specs.declared.calls.Asked.TheVariants.{Help, Version, Work}
+use Rattle.reed_solomon.specs.Decode.{Decoded, Decodes, changed_by}
 use Rattle.reed_solomon.specs.declared.Changed.{Changed}
 use Rattle.recording_block.specs.declared.BlockRequest.TheVariants.{Block, Other}
-use Rattle.recording.specs.Block.{block_count, GivesBlock}
-use Rattle.recording.specs.declared.block.DecodedBlock.{DecodedBlock}
+use Rattle.recording.specs.Block.{block_count, GivesBlock, block_refused, block_decoded}
 use Rattle.recording_block.specs.Ends.{BlockAnswered, as_block, block_in, request_of}
 
 -- ---- a number that was read
@@ -75,9 +78,9 @@ module _ (p : ℕ) {input : Input} {buffer : List ℕ} {f : Filled} (o : OpenedI
       by (yes l) = inr (ap₂ (λ (x y : Bool). pick x false y) u (h.short (omega arith)))
       by (no l) = inl (omega (arith, l, h.within, came_length))
 
-  pub answered : (d : DecodedBlock) (block : List ℕ) (blocks number : ℕ) (output : Output) → blocks ≡ block_count came → GivesBlock came blocks 0 (replicate 204 0) d block
-      → number ≡ number_of d.answer → output_failed output ≡ false → output_trace output ≡ traced no_bytes (pick (eqb number 0) block [])
-      → BlockAnswered p number d.changed f.input output
+  pub answered : (d : Decoded) (block : List ℕ) (blocks number : ℕ) (output : Output) → blocks ≡ block_count came → GivesBlock came blocks 0 (replicate 204 0) d block
+      → number ≡ numbers.answered d → output_failed output ≡ false → output_trace output ≡ traced no_bytes (pick (eqb number 0) block [])
+      → BlockAnswered p number (changed_by d) f.input output
   answered d block blocks number output e g n v w = record {
     file = ap origin_argument h.origin ∙ o.argument_is;
     start = ap origin_start h.origin ∙ o.start_is;
@@ -92,6 +95,16 @@ module _ (p : ℕ) {input : Input} {buffer : List ℕ} {f : Filled} (o : OpenedI
     unfailed = v;
     written = w;
   }
+
+-- a refusal has a number other than 0
+refusal_number : (came left : List ℕ) (refusal : Refusal) → Decodes came left (Err refusal) → numbers.number_of refusal ≡ 0 → ⊥
+refusal_number came left Uncorrectable d e = omega arith
+refusal_number came left BlockLength d e = omega arith
+refusal_number came left _ d e = d
+
+pub refused_number : {bytes output exit : List ℕ} {blocks p : ℕ} {refusal : Refusal} → GivesBlock bytes blocks p output (Err refusal) exit → numbers.number_of refusal ≡ 0 → ⊥
+refused_number (block_refused h n c w) e = omega arith
+refused_number {refusal = refusal} (block_decoded left h d w) e = refusal_number _ left refusal d e
 
 pub nothing_written : (number : ℕ) (block : List ℕ) (output : Output) → FreshOutput (pos 1) output → (number ≡ 0 → ⊥)
     → output_trace output ≡ traced no_bytes (pick (eqb number 0) block [])

@@ -3,7 +3,7 @@
 -- Assumes nothing.
 use Rattle.std.specs.Prelude.{◌≡◌, Bool, true, false, List, [], ◌∷◌, ◌⊎◌, ℕ, ◌*◌, ◌<◌, eqb, ℤ, pos, length, replicate}
 use Rattle.common.specs.Choice.{pick}
-use Rattle.answer.specs.Number.{number_of}
+use Rattle.answer.specs.Number as numbers
 use Rattle.answer_lines.specs.Lines.{block_text}
 use Rattle.program_io.specs.Checksum.{no_bytes, traced}
 use Rattle.program_io.specs.Calls.{asked_of, AnswersCall}
@@ -18,9 +18,9 @@ use Rattle.program_io.specs.declared.words.Arguments.{Arguments}
 use Rattle.program_io.specs.declared.words.Word.{Word}
 use Rattle.program_io.specs.declared.words.Parsed.{Parsed}
 use Rattle.program_io.specs.declared.words.Parsed.TheVariants.{Number, Large, Malformed}
+use Rattle.reed_solomon.specs.Decode.{Decoded, changed_by}
 use Rattle.reed_solomon.specs.declared.Changed.{Changed}
 use Rattle.recording.specs.Block.{block_count, GivesBlock}
-use Rattle.recording.specs.declared.block.DecodedBlock.{DecodedBlock}
 use Rattle.program_io.specs.declared.calls.Ended.{Ended}
 use Rattle.recording_block.specs.declared.BlockRequest.{BlockRequest}
 use Rattle.recording_block.specs.declared.BlockRequest.TheVariants.{Block, Past, Other}
@@ -61,11 +61,11 @@ pub record BlockAnswered (p number : ℕ) (changed : Changed) (input : Input) (o
   pub part : List ℕ
   pub read : input_trace input ≡ traced no_bytes part
   pub all : (length part ≡ 2448) ⊎ (input_ended input ≡ true)
-  pub decoded : DecodedBlock
+  pub decoded : Decoded
   pub block : List ℕ
   pub gives : GivesBlock part (block_count part) 0 (replicate 204 0) decoded block
-  pub number_is : number ≡ number_of decoded.answer
-  pub changed_is : changed ≡ decoded.changed
+  pub number_is : number ≡ numbers.answered decoded
+  pub changed_is : changed ≡ changed_by decoded
   pub unfailed : output_failed output ≡ false
   pub written : output_trace output ≡ traced no_bytes (pick (eqb number 0) block [])
 

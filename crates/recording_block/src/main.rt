@@ -100,13 +100,13 @@ fn give_block(system: &mut System, p: u64, input: Input) -> Ended
     }
     let blocks = recording::block::whole_blocks(&buffer[..n]);
     let decoded = recording::block::decoded_block(&buffer[..n], blocks, 0, &mut block);
-    let answer = decoded.answer;
-    let changed = decoded.changed;
-    let number = answer.number();
-    let refused = number != 0;
-    if refused {
-        return finish(system, p, number, changed, input, output, errors);
-    }
+    let changed = match decoded {
+        Ok(changed) => changed,
+        Err(refusal) => {
+            let number = refusal.number();
+            return finish(system, p, number, Changed::NONE, input, output, errors);
+        }
+    };
     let output = output.write(system, b"standard output", &block);
     if output.failed() {
         return Ended {
@@ -116,14 +116,14 @@ fn give_block(system: &mut System, p: u64, input: Input) -> Ended
             errors,
         };
     }
-    finish(system, p, number, changed, input, output, errors)
+    finish(system, p, 0, changed, input, output, errors)
 }
 
 // Tells that no recording has such a block.
 fn refuse(system: &mut System) -> Answered
     ensures { Beyond result }
 {
-    let output = tell(system, 16, Changed { bytes: 0, bits: 0 }, Output::errors());
+    let output = tell(system, 16, Changed::NONE, Output::errors());
     Answered { output, status: 1 }
 }
 

@@ -1,11 +1,11 @@
 -- The division by g of sixteen coefficients and sixteen after them. Lists of coefficients have the highest first.
 -- Assumes nothing.
-use mathlib.Core.Path.{◌≡◌, refl, sym, ap, ap₂, ◌∙◌, fun_ext}
+use mathlib.Core.Path.{◌≡◌, refl, sym, ap, ap₂, ◌∙◌}
 use mathlib.Core.List.{List, [], ◌∷◌, ◌++◌, append-nil}
 use mathlib.Core.Logic.{inl, inr}
 use Prim.Native.Nat.{ℕ, zero, suc, ◌+◌, ◌*◌, ◌-◌, ◌/◌, ◌%◌, ◌^◌, ◌≤◌, ◌<◌, Fin}
 use Prim.{tt}
-use native.Mathlib.Nat.{div-one, div-le_self, lt_of_le_of_lt}
+use native.Mathlib.Nat.{div-le_self, lt_of_le_of_lt}
 use native.Mathlib.Decide.{dec_lt}
 use native.Mathlib.Numerals.{add-one}
 use native.Mathlib.Omega.{arith}
@@ -22,7 +22,6 @@ use Rattle.algebra.specs.Field.{Field, ops}
 use Rattle.algebra.specs.Polynomial.{power, plus, scale, product}
 use Rattle.algebra.proofs.Ring.{ring, add_assoc, add_comm, add_self, add_self_left, add_zero, zero_add, add_mul, mul_assoc, mul_zero, zero_mul, one_mul, mul_one, eq_of_add}
 use Rattle.galois.specs.Field256.{numbers, mul, rounds, times_x}
-use Rattle.galois.proofs.Laws.{bit_times_lt}
 use Rattle.galois.proofs.Instance.{bytes, byte, byte_zero, byte_one, byte_add, byte_mul}
 use Rattle.galois.proofs.Elements.{alpha}
 use Rattle.galois.proofs.Words.{length-sum, sum_at}
@@ -79,9 +78,6 @@ bit_product (suc zero) z h =
     ap byte e ∙ sym (one_mul bytes (byte z)) ∙ ap (λ (u : Fin 256). bytes.mul u (byte z)) (sym byte_one)
 bit_product (suc (suc b)) z h = absurd (omega arith)
 
-pub plane_fits : (c i z : ℕ) → z < 256 → bit_and (c / 2 ^ i) 1 * z < 256
-plane_fits c i z h = rw (and_mask (c / 2 ^ i) 1) (bit_times_lt (c / 2 ^ i) z h)
-
 pub plane_none : (v i n : ℕ) (l : List ℕ) → byte v ≡ bytes.add (byte v) (back_sum (bit_of i) [] l n)
 unfolding back_sum
 plane_none v i n l = sym (add_zero bytes (byte v))
@@ -113,9 +109,6 @@ rounds_none (c ∷ cs) l n b =
     ∙ sym (ap₂ bytes.add (ap (λ (k : ℕ). bytes.mul (byte k) (byte (get_or l n 0))) e ∙ ap (λ (u : Fin 256). bytes.mul u (byte (get_or l n 0))) byte_zero ∙ zero_mul bytes (byte (get_or l n 0)))
     (sym (rounds_none cs l (n - 1) b.1) ∙ byte_zero)
     ∙ add_zero bytes bytes.𝟘)
-
-pub rounds_all : (cs l : List ℕ) (n : ℕ) → back_sum (λ x. x / 2 ^ 0) cs l n ≡ back_sum (λ x. x) cs l n
-rounds_all cs l n = ap (λ (f : ℕ → ℕ). back_sum f cs l n) (fun_ext (λ x. div-one x))
 
 rounds_next : (cs l : List ℕ) (i n : ℕ) → Bytes cs → i < 8
     → bytes.add (bytes.mul (back_sum (λ x. x / 2 ^ (i + 1)) cs l n) (byte 2)) (back_sum (bit_of i) cs l n) ≡ back_sum (λ x. x / 2 ^ i) cs l n

@@ -7,6 +7,8 @@ use Prim.{Unit}
 use native.Mathlib.Decide.{ℕ_discrete, dec_lt}
 use native.Mathlib.Nat.{le_of_suc-le-suc}
 use native.Mathlib.Omega.{arith}
+use Rattle.std.proofs.Common.{Ok, Err}
+use Rattle.answer.specs.declared.Refusal.TheVariants.{Uncorrectable, BlockLength, MarkValue}
 use borrow.Author.Tests.{eq-eqb, ne_eqb}
 use lib.Dec.{eqb}
 use lib.ListN.{length, get_or, replicate, length-reverse, length-append}
@@ -19,10 +21,8 @@ use Rattle.algebra.proofs.Syndromes.{Term, keep, support, weight, weighted}
 use Rattle.algebra.proofs.Terms.{terms}
 use Rattle.galois.proofs.Instance.{bytes, byte}
 use Rattle.reed_solomon.specs.Code.{Codeword, distance, differ, changes}
-use Rattle.reed_solomon.specs.Decode.{Decodes}
+use Rattle.reed_solomon.specs.Decode.{Decoded, Decodes}
 use Rattle.reed_solomon.specs.Marks.{no_marks, marked, unmarked, cost, AcceptedMarked, DecodesMarked}
-use Rattle.reed_solomon.specs.declared.Decoded.{Decoded}
-use Rattle.reed_solomon.specs.declared.Decoded.TheVariants.{Corrected, Uncorrectable, BlockLength, MarkValue}
 use Rattle.reed_solomon.specs.declared.Changed.{Changed}
 use Rattle.galois.proofs.Elements.{elements}
 use Rattle.error_correction.specs.Correction.{zeros_from}
@@ -114,7 +114,7 @@ cost_none came c n = omega (arith, unmarked_none 204 came c (omega arith), marke
 
 -- with no byte marked, decoding is that without marks
 pub without_marks : (came left : List ℕ) (r : Decoded) → DecodesMarked no_marks came left r → Decodes came left r
-without_marks came left (Corrected changed) d =
+without_marks came left (Ok changed) d =
     let a = d.2 in (
       d.0,
       record {
@@ -124,18 +124,19 @@ without_marks came left (Corrected changed) d =
         nearest = λ c cw ne. omega (arith, a.within, cost_none came left d.0, a.only c cw ne, cost_none came c d.0);
       },
     )
-without_marks came left Uncorrectable d =
+without_marks came left (Err Uncorrectable) d =
     (d.0, record { unchanged = d.2.unchanged; far = λ c cw. omega (arith, d.2.far c cw, cost_none came c d.0) })
-without_marks came left BlockLength d = d
-without_marks came left MarkValue d = d.1 no_marks_lem
+without_marks came left (Err BlockLength) d = d
+without_marks came left (Err MarkValue) d = absurd (d.1 no_marks_lem)
+without_marks came left (Err _) d = absurd d
 
 pub as_without_marks : (came left : List ℕ) (r : Decoded) → Decodes came left r → DecodesMarked no_marks came left r
-as_without_marks came left (Corrected changed) d =
+as_without_marks came left (Ok changed) d =
     (d.0, no_marks_lem, accepted_marked no_marks came left changed refl d.0 d.1.codeword d.1.counted (omega (arith, d.1.within, cost_none came left d.0)))
-as_without_marks came left Uncorrectable d =
+as_without_marks came left (Err Uncorrectable) d =
     (d.0, no_marks_lem, record { unchanged = d.1.unchanged; far = λ c cw. omega (arith, d.1.far c cw, cost_none came c d.0) })
-as_without_marks came left BlockLength d = d
-as_without_marks came left MarkValue d = absurd d
+as_without_marks came left (Err BlockLength) d = d
+as_without_marks came left (Err _) d = absurd d
 
 -- ---- from the last place to the first
 

@@ -10,7 +10,7 @@ use native.Mathlib.Omega.{arith}
 use borrow.Author.Tests.{eq-eqb, ne_eqb, lt-ltb, eqb-true, ltb-true}
 use lib.Dec.{eqb}
 use lib.ListN.{get_or, take}
-use lib.Seq.{take-suc, take_all}
+use lib.Seq.{take-suc}
 use Rattle.common.specs.Choice.{pick}
 use Rattle.common.specs.Lists.{largest}
 use Rattle.common.proofs.Choice.{false_true, both_true}
@@ -73,9 +73,6 @@ counted_more marks count i m l c =
       total = omega (arith, c.total, ap marked e, marked_append (take i marks) (get_or marks i 0 ∷ []), mark_bit (get_or marks i 0) b);
       fits = omega (arith, c.fits);
     }
-
-pub counted_all : (marks : List ℕ) (count i : ℕ) → Marks marks → 204 ≤ i → CountedTo marks count i → count ≡ marked marks
-counted_all marks count i m l c = c.total ∙ ap marked (take_all i marks (omega (arith, m.size)))
 
 -- ---- when they are marks
 

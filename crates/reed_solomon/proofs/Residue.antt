@@ -3,14 +3,13 @@
 use mathlib.Core.Path.{◌≡◌, refl, sym, ap, ap₂, ◌∙◌}
 use mathlib.Core.Bool.{Bool, true, false}
 use mathlib.Core.List.{List, [], ◌∷◌, ◌++◌, append-nil, reverse, reverse-cons}
-use Prim.Native.Nat.{ℕ, zero, suc, ◌+◌, ◌-◌, ◌≤◌, ◌<◌, Fin}
+use Prim.Native.Nat.{ℕ, zero, suc, ◌+◌, ◌-◌, ◌<◌, Fin}
 use native.Mathlib.Decide.{ℕ_discrete}
 use native.Mathlib.Nat.{zero-add}
-use native.Mathlib.Numerals.{add-one}
 use native.Mathlib.Omega.{arith}
 use borrow.Author.Tests.{eq-eqb, ne_eqb}
-use lib.ListN.{length, get_or, take, drop, replicate, length-take, length-drop, length-reverse, drop_of_length-le, take-append-drop, get_or-append}
-use lib.Seq.{drop-cons, get_or-take, get_or-append-add}
+use lib.ListN.{length, get_or, take, drop, replicate, length-take, length-drop, length-reverse, take-append-drop, get_or-append}
+use lib.Seq.{get_or-take, get_or-append-add}
 use Rattle.common.specs.Lists.{Bytes}
 use Rattle.common.proofs.Choice.{false_true}
 use Rattle.algebra.specs.Field.{ops}
@@ -28,16 +27,6 @@ use Rattle.reed_solomon.proofs.Codewords.{block_syndrome, generator_root, same_s
 use Rattle.reed_solomon.proofs.LongDivision.{high, high_append, high_plus, high_zeros, high_check, check_remainder}
 
 -- ---- the test for zero
-
-module _ (l : List ℕ) (j : ℕ) where
-  pub zero_skip : j < length l → get_or l j 0 ≡ 0 → all_zero (drop j l) ≡ all_zero (drop (j + 1) l)
-  zero_skip h e = rw (drop-cons l j 0, add-one) (simp (eq-eqb _ _ e))
-
-  pub zero_stop : j < length l → (get_or l j 0 ≡ 0 → ⊥) → all_zero (drop j l) ≡ false
-  zero_stop h e = rw (drop-cons l j 0) (simp (ne_eqb _ _ e))
-
-  pub zero_end : length l ≤ j → all_zero (drop j l) ≡ true
-  zero_end h = ap all_zero (drop_of_length-le l {i = j} h)
 
 -- the test tells of each byte
 pub zero_each : (l : List ℕ) → all_zero l ≡ true → (j : ℕ) → get_or l j 0 ≡ 0

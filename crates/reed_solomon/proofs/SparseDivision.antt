@@ -123,9 +123,6 @@ module _ (m q v p : List ℕ) (i : ℕ) (h : i + 16 ≤ 128) (lq : length q ≡ 
           ap (λ (x : ℕ). get_or p x 0) n ∙ own (k - i) (omega arith)
           ∙ ap₂ (λ (x y : ℕ). delayed_sum delays q x (get_or m y 0)) (sym n) a ∙ anew (84 + k) (get_or m k 0) (omega arith)
 
-pub remainder_none : (m q r : List ℕ) → SparseRemainder m q r 0
-remainder_none m q r = record { each = λ k h. absurd (omega arith) }
-
 pub remainder_more : (m q r v s : List ℕ) (i : ℕ) → i + 16 ≤ 96 → length r ≡ 96 → length v ≡ 16 → DelayedSums delays q (i + 212) (take 16 (drop (i + 128) m)) v
     → s ≡ take i r ++ v ++ drop (i + length v) r → SparseRemainder m q r i → SparseRemainder m q s (i + 16)
 remainder_more m q r v s i h lr lv e f R = record { each = λ k l. ap (λ (x : List ℕ). get_or x k 0) f ∙ go k l (dec_lt k i) }

@@ -1,11 +1,11 @@
 -- What decoding a block means, as a relation between the bytes that came, the bytes left and the answer. Marks.antt has what it means with marks.
 -- Clauses: document 01, "Outer code"; document 02, P3.
 -- Assumes nothing.
-use Rattle.std.specs.Prelude.{◌≡◌, List, ℕ, ◌≤◌, ◌<◌, length}
+use Rattle.std.specs.Prelude.{◌≡◌, List, ℕ, ◌≤◌, ◌<◌, length, Result, Ok, Err}
+use Rattle.answer.specs.declared.Refusal.{Refusal}
+use Rattle.answer.specs.declared.Refusal.TheVariants.{Uncorrectable, BlockLength}
 use Rattle.reed_solomon.specs.Code.{Codeword, differ, changes, no_change}
 use Rattle.reed_solomon.specs.declared.Changed.{Changed}
-use Rattle.reed_solomon.specs.declared.Decoded.{Decoded}
-use Rattle.reed_solomon.specs.declared.Decoded.TheVariants.{Corrected, Uncorrectable, BlockLength, MarkValue}
 
 -- accepted: what is left is a codeword, what is told changed is in how many bytes and bits it differs from what came,
 -- at most eight bytes, and every other codeword differs from what came in more
@@ -20,22 +20,17 @@ pub record Rejected (came left : List ℕ) : Type 0 where
   pub unchanged : left ≡ came
   pub far : (c : List ℕ) → Codeword c → 8 < differ came c
 
-abbrev pub Decodes : List ℕ → List ℕ → Decoded → Type 0
-Decodes came left (Corrected changed) = (length came ≡ 204) × Accepted came left changed
-Decodes came left Uncorrectable = (length came ≡ 204) × Rejected came left
-Decodes came left BlockLength = (length came ≡ 204 → ⊥) × (left ≡ came)
-Decodes came left MarkValue = ⊥
+-- what decoding answers: what was changed where the block left is the codeword, or the refusal of a block that is left as it came
+abbrev pub Decoded : Type 0
+Decoded = Result Changed Refusal
 
--- the number that documents 01 and 02 give the answer
-abbrev pub decoded_number : Decoded → ℕ
-decoded_number (Corrected changed) = 0
-decoded_number Uncorrectable = 8
-decoded_number BlockLength = 3
-decoded_number MarkValue = 20
+abbrev pub Decodes : List ℕ → List ℕ → Decoded → Type 0
+Decodes came left (Ok changed) = (length came ≡ 204) × Accepted came left changed
+Decodes came left (Err Uncorrectable) = (length came ≡ 204) × Rejected came left
+Decodes came left (Err BlockLength) = (length came ≡ 204 → ⊥) × (left ≡ came)
+Decodes came left (Err _) = ⊥
 
 -- what decoding tells that it changed: nothing where it answers with a refusal
 abbrev pub changed_by : Decoded → Changed
-changed_by (Corrected changed) = changed
-changed_by Uncorrectable = no_change
-changed_by BlockLength = no_change
-changed_by MarkValue = no_change
+changed_by (Ok changed) = changed
+changed_by (Err _) = no_change

@@ -1,13 +1,13 @@
 -- What decoding a block means where some of its bytes are marked as doubtful: errors and erasures decoding. A mark is 0 or 1, and a marked byte is an erasure.
 -- Clause: document 02, P11.
 -- Assumes nothing.
-use Rattle.std.specs.Prelude.{◌≡◌, Bool, false, List, [], ◌∷◌, ℕ, ◌+◌, ◌*◌, ◌≤◌, ◌<◌, eqb, ltb, length, get_or, replicate}
+use Rattle.std.specs.Prelude.{◌≡◌, Bool, false, List, [], ◌∷◌, ℕ, ◌+◌, ◌*◌, ◌≤◌, ◌<◌, eqb, ltb, length, get_or, replicate, Ok, Err}
+use Rattle.answer.specs.declared.Refusal.TheVariants.{Uncorrectable, BlockLength, MarkValue}
 use Rattle.common.specs.Choice.{pick, unequal}
 use Rattle.common.specs.Lists.{largest}
 use Rattle.reed_solomon.specs.Code.{Codeword, changes}
 use Rattle.reed_solomon.specs.declared.Changed.{Changed}
-use Rattle.reed_solomon.specs.declared.Decoded.{Decoded}
-use Rattle.reed_solomon.specs.declared.Decoded.TheVariants.{Corrected, Uncorrectable, BlockLength, MarkValue}
+use Rattle.reed_solomon.specs.Decode.{Decoded}
 
 -- a mark, 0 or 1, for each byte of a block
 pub record Marks (marks : List ℕ) : Type 0 where
@@ -53,7 +53,8 @@ pub record RejectedMarked (marks came left : List ℕ) : Type 0 where
 
 -- first the block's length, then the marks
 abbrev pub DecodesMarked : List ℕ → List ℕ → List ℕ → Decoded → Type 0
-DecodesMarked marks came left (Corrected changed) = (length came ≡ 204) × Marks marks × AcceptedMarked marks came left changed
-DecodesMarked marks came left Uncorrectable = (length came ≡ 204) × Marks marks × RejectedMarked marks came left
-DecodesMarked marks came left BlockLength = (length came ≡ 204 → ⊥) × (left ≡ came)
-DecodesMarked marks came left MarkValue = (length came ≡ 204) × (Marks marks → ⊥) × (left ≡ came)
+DecodesMarked marks came left (Ok changed) = (length came ≡ 204) × Marks marks × AcceptedMarked marks came left changed
+DecodesMarked marks came left (Err Uncorrectable) = (length came ≡ 204) × Marks marks × RejectedMarked marks came left
+DecodesMarked marks came left (Err BlockLength) = (length came ≡ 204 → ⊥) × (left ≡ came)
+DecodesMarked marks came left (Err MarkValue) = (length came ≡ 204) × (Marks marks → ⊥) × (left ≡ came)
+DecodesMarked marks came left (Err _) = ⊥

@@ -13,14 +13,8 @@ use Rattle.report.specs.Steps.{Front}
 use Rattle.report.proofs.Fronts.{report_unique}
 
 module _ (text : List ℕ) (at : ℕ) (r : Report) (e : ℕ) where
-  pub read_none : Front text at false r e → ReadsReport (drop at text) 17 blank (drop at text)
-  read_none f = front_none refl refl (f.none refl)
-
   pub read-wrong : Front text at true r e → sums r ≡ false → ReadsReport (drop at text) 18 blank (drop e text)
   read-wrong f s = front_wrong r refl refl (f.small refl) s (f.is refl)
-
-  pub read_done : Front text at true r e → sums r ≡ true → ReadsReport (drop at text) 0 r (drop e text)
-  read_done f s = front refl (f.small refl) s (f.is refl)
 
 -- a report that was read
 pub read-report : {t : List ℕ} {n : ℕ} {r : Report} {rest : List ℕ} → ReadsReport t n r rest → n ≡ 0

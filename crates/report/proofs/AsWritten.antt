@@ -10,6 +10,10 @@ use native.Mathlib.Omega.{arith}
 use borrow.Author.Tests.{ne_eqb, le-ltb, ltb-false}
 use lib.Dec.{eqb, ltb}
 use lib.ListN.{length, drop, drop_of_length-le}
+use Rattle.std.specs.Prelude.{Result, Ok, Err}
+use Rattle.std.specs.Result.{result_unwrap_or}
+use Rattle.answer.specs.Number.{given_or}
+use Rattle.answer.specs.declared.Refusal.{Refusal}
 use Rattle.common.specs.Choice.{pick}
 use Rattle.common.specs.Lists.{placed}
 use Rattle.common.proofs.Choice.{false_true}
@@ -40,6 +44,11 @@ module _ {due : ℕ} {text output : List ℕ} {number size : ℕ} {exit : List �
       by : Dec (due ≡ 0) → size ≤ length output
       by (yes e) = omega (arith, h e, written_size e)
       by (no e) = let n : size ≡ 0 = w.size_is ∙ simp (ne_eqb due 0 e) refl in omega arith
+
+-- how many bytes were written, as a number that is 0 where the answer is a refusal
+pub size_given : (r : Result ℕ Refusal) → result_unwrap_or r 0 ≡ given_or 0 (λ (n : ℕ). n) r
+size_given (Ok n) = refl
+size_given (Err e) = refl
 
 -- none of the three tests refuses
 pub record Passed (r : Report) (output : List ℕ) : Type 0 where

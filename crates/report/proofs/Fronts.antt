@@ -51,22 +51,9 @@ bits_unique (Number m) (Number n) x y f h k q =
     (ap (λ (i : ℕ). Number i) u.0, u.1)
 
 module _ (text : List ℕ) (at : ℕ) where
-  pub bits_absent : at ≤ length text → BitsIs text at 1 true Absent at
-  bits_absent h = record { fitting = λ d. refl; small = λ d. refl; place = λ d. h; is = λ d. refl; none = λ d. false_true (sym d) }
-
-  pub bits_no_form : (form : ℕ) → (form ≡ 1 → ⊥) → (form ≡ 2 → ⊥) → BitsIs text at form false Absent at
-  bits_no_form form e f = record {
-    fitting = λ d. false_true d;
-    small = λ d. false_true d;
-    place = λ d. false_true d;
-    is = λ d. false_true d;
-    none = λ d b rest g k q. go b g;
-  }
-    where
-      go : (b : Bits) → form_of b ≡ form → ⊥
-      go Absent g = e (sym g)
-      go Dash g = f (sym g)
-      go (Number n) g = f (sym g)
+  -- where no line is found, it does not matter what stands beside that
+  pub bits_none : {form d e : ℕ} {b c : Bits} → BitsIs text at form false b d → BitsIs text at form false c e
+  bits_none i = record { fitting = λ d. false_true d; small = λ d. false_true d; place = λ d. false_true d; is = λ d. false_true d; none = i.none }
 
   pub bits_dash : WordIs (bits_text Dash) text at true → BitsIs text at 2 true Dash (at + 7)
   unfolding row

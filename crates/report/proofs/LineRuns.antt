@@ -37,7 +37,7 @@ within_all (suc n) vs f = simp (within_all n vs (λ i h. f i (omega arith)), le-
 
 -- a number within the limit of a row takes at most forty bits, so at most twenty digits
 pub forty_bits : (n v : ℕ) → n < 10 → v ≤ (row n).limit → v < 1099511627776
-forty_bits n v h l = let t = table n h in omega (arith, t.limits, t.small)
+forty_bits n v h l = let t = table n h in omega (arith, t.small)
 
 pub limited : (n v : ℕ) → n < 10 → v ≤ (row n).limit → v < 100000000000000000000
 limited n v h l = let b = forty_bits n v h l in omega arith

@@ -14,7 +14,7 @@ use Rattle.common.proofs.Choice.{false_true}
 use Rattle.report.specs.declared.Bits.{Bits}
 use Rattle.report.specs.declared.Bits.TheVariants.{Absent, Dash, Number}
 use Rattle.report.specs.declared.Report.{Report}
-use Rattle.report.specs.Text.{report_text, write_number, WritesText}
+use Rattle.report.specs.Text.{report_text, write_number}
 use Rattle.report.specs.Read.{ReadsWhole}
 use Rattle.report.specs.Move.{movable, moved_bits, moved, move_number, Moves, MovedText, other_form}
 use Rattle.report.proofs.AsWritten.{written_size, written_output, written_within, read_given, given_read, write_passed, write_done}
@@ -41,25 +41,6 @@ module _ (t : List ℕ) (form : ℕ) (output : List ℕ) (n : ℕ) (r : Report) 
     report = r;
     read = w;
     writes = record { number_is = simp (ne_eqb n 0 e); size_is = simp (ne_eqb n 0 e); output_is = simp (ne_eqb n 0 e) };
-  }
-
-  pub move_refused : n ≡ 0 → movable r.bits form ≡ false → Moves t form output 19 0 output
-  move_refused e m = record {
-    answer = n;
-    report = r;
-    read = w;
-    writes = record { number_is = simp (eq-eqb n 0 e, m); size_is = simp (eq-eqb n 0 e, m); output_is = simp (eq-eqb n 0 e, m) };
-  }
-
-  pub move_done : n ≡ 0 → movable r.bits form ≡ true → (b : Bits) → b ≡ moved_bits r.bits → (number size : ℕ) (exit : List ℕ)
-      → WritesText (write_number (with_bits r b) output) (report_text (with_bits r b)) output number size exit → Moves t form output number size exit
-  move_done e m b q number size exit x = record {
-    answer = n;
-    report = r;
-    read = w;
-    writes =
-        subst (λ (k : ℕ). WritesText k (report_text (moved r)) output number size exit) (sym (simp (eq-eqb n 0 e, m) refl))
-        (subst (λ (c : Bits). WritesText (write_number (with_bits r c) output) (report_text (with_bits r c)) output number size exit) q x);
   }
 
 -- ---- there and back

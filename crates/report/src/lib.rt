@@ -2,27 +2,29 @@
 // Of its public functions only `read_front` has a requires: it is a part, for readers of many reports.
 #![tactic(auto)]
 
-ghost use Rattle.std.specs.Prelude.{◌≡◌, true, ◌+◌, ◌≤◌, ◌<◌, min, length, drop};
-ghost use Rattle.answer.specs.Number.{number_of};
+ghost use Rattle.std.specs.Prelude.{◌≡◌, true, [], ◌+◌, ◌≤◌, ◌<◌, length, drop, is_some};
+ghost use Rattle.answer.specs.Number.{answered, given_or};
 ghost use Rattle.report_lines.specs.Line.{line_text, Appended};
-ghost use Rattle.report_lines.specs.Reading.{LineIs};
+ghost use Rattle.report_lines.specs.Reading.{found_or, LineIs};
 ghost use Rattle.report.specs.Text.{row, form_of, fields, lines_text, bits_text, bits_within, numbers_within, report_text, fits, sums, write_number, WritesText};
-ghost use Rattle.report.specs.Read.{ReadsReport, ReadsWhole};
+ghost use Rattle.report.specs.Read.{blank, ReadsReport, ReadsWhole};
 ghost use Rattle.report.specs.Move.{movable, moved_bits, Moves};
+ghost use Rattle.report.specs.declared.Bits.TheVariants.{Absent};
 ghost use Rattle.report.specs.Steps.{RowsRead, BitsIs, Front};
 
-use answer::Answer;
+use answer::Refusal;
 use report_lines::LineRead;
 
 // The changed bits: absent from form 1; in form 2 a number, or a dash where they are not known. So the form follows from them.
-#[derive(Clone, Copy)]
+#[derive(Clone, Copy, PartialEq, Eq)]
 pub enum Bits {
     Absent,
     Dash,
     Number(u64),
 }
 
-#[derive(Clone, Copy)]
+// The counts of a pass of the receiver.
+#[derive(Clone, Copy, PartialEq, Eq)]
 pub struct Report {
     pub taken: u64,
     pub filling: u64,
@@ -35,24 +37,62 @@ pub struct Report {
     pub rest: u64,
 }
 
-// The table of the lines: their keys, one after the other, and where each starts.
-const KEYS: [u8; 70] = *b"form=taken=filling=delivered=lost=waiting=outofstep=changed=bits=rest=";
+// A row of the table of the lines: a key with its equals sign, and the largest number that its line may have.
+#[derive(Clone, Copy)]
+struct TableRow {
+    key: &'static [u8],
+    limit: u64,
+}
 
-const STARTS: [usize; 11] = [0, 5, 11, 19, 29, 34, 42, 52, 60, 65, 70];
-
-// The largest number of each line.
-const LIMITS: [u64; 10] = [
-    2,
-    4294967295,
-    4294967295,
-    4294967295,
-    4294967295,
-    4294967295,
-    4294967295,
-    68719476720,
-    549755813760,
-    203,
-];
+// A row is a number below 10: a loop goes over the first eight, and their values fill an array.
+#[tactic(auto, unfolding(crate::specs::Text::row))]
+fn table_row(n: usize) -> TableRow
+    requires { n < 10 }
+    ensures { (result.key.now ≡ (row n).key) × (result.limit ≡ (row n).limit) }
+{
+    match n {
+        0 => TableRow {
+            key: b"form=",
+            limit: 2,
+        },
+        1 => TableRow {
+            key: b"taken=",
+            limit: 4294967295,
+        },
+        2 => TableRow {
+            key: b"filling=",
+            limit: 4294967295,
+        },
+        3 => TableRow {
+            key: b"delivered=",
+            limit: 4294967295,
+        },
+        4 => TableRow {
+            key: b"lost=",
+            limit: 4294967295,
+        },
+        5 => TableRow {
+            key: b"waiting=",
+            limit: 4294967295,
+        },
+        6 => TableRow {
+            key: b"outofstep=",
+            limit: 4294967295,
+        },
+        7 => TableRow {
+            key: b"changed=",
+            limit: 68719476720,
+        },
+        8 => TableRow {
+            key: b"bits=",
+            limit: 549755813760,
+        },
+        _ => TableRow {
+            key: b"rest=",
+            limit: 203,
+        },
+    }
+}
 
 const BITS_ROW: usize = 8;
 
@@ -63,165 +103,114 @@ fn form_of(bits: Bits) -> u64
 {
     match bits {
         Bits::Absent => 1,
-        Bits::Dash => 2,
-        Bits::Number(_) => 2,
+        Bits::Dash | Bits::Number(_) => 2,
     }
 }
 
-// Reads the line of a row of the table.
-fn read_row(text: &[u8], at: usize, n: usize) -> LineRead
+// Reads the line of a row of the table. A place in the text is a number with its bound, since a reader tells where the report ends.
+fn read_row(text: &[u8], at: usize, n: usize) -> Option<LineRead>
     requires { (at ≤ length text.now) × (n < 10) }
-    ensures { LineIs (row n).key text.now at (row n).limit result.found result.value result.end }
+    ensures { LineIs (row n).key text.now at (row n).limit (is_some result) (found_or 0 (λ l. l.value) result) (found_or 0 (λ l. l.end) result) }
 {
-    let keys = KEYS;
-    let from = STARTS[n];
-    let to = STARTS[n + 1];
-    report_lines::read_line(text, at, &keys[from..to], LIMITS[n])
+    let row = table_row(n);
+    report_lines::read_line(text, at, row.key, row.limit)
 }
 
+// The first eight numbers, and the place after their lines.
 #[derive(Clone, Copy)]
-struct Rows {
-    found: bool,
+struct FirstRows {
     values: [u64; 8],
     end: usize,
 }
 
 // Reads the first eight lines.
-fn read_rows(text: &[u8], at: usize) -> Rows
+fn read_rows(text: &[u8], at: usize) -> Option<FirstRows>
     requires { at ≤ length text.now }
-    ensures { RowsRead text.now at result.found result.values result.end }
+    ensures { RowsRead text.now at (is_some result) (found_or [] (λ r. r.values) result) (found_or at (λ r. r.end) result) }
 {
     let mut values = [0u64; 8];
     let mut place = at;
-    let mut i: usize = 0;
-    while i < 8 {
-        let line = read_row(text, place, i);
-        if !line.found {
-            return Rows {
-                found: false,
-                values,
-                end: at,
-            };
-        }
+    for i in 0..8 {
+        let line = read_row(text, place, i)?;
         values[i] = line.value;
         place = line.end;
-        i += 1;
     }
-    Rows {
-        found: true,
-        values,
-        end: place,
-    }
+    Some(FirstRows { values, end: place })
 }
 
+// The bits, and the place after their line.
 #[derive(Clone, Copy)]
 struct BitsRead {
-    found: bool,
     bits: Bits,
     end: usize,
 }
 
 // Reads the line of the bits, which form 1 does not have.
-fn read_bits(text: &[u8], at: usize, form: u64) -> BitsRead
+fn read_bits(text: &[u8], at: usize, form: u64) -> Option<BitsRead>
     requires { at ≤ length text.now }
-    ensures { BitsIs text.now at form result.found result.bits result.end }
+    ensures { BitsIs text.now at form (is_some result) (found_or Absent (λ b. b.bits) result) (found_or at (λ b. b.end) result) }
 {
     if form == 1 {
-        return BitsRead {
-            found: true,
+        return Some(BitsRead {
             bits: Bits::Absent,
             end: at,
-        };
+        });
     }
     if form != 2 {
-        return BitsRead {
-            found: false,
-            bits: Bits::Absent,
-            end: at,
-        };
+        return None;
     }
-    let dash = b"bits=-\n";
-    if report_lines::matches(text, at, dash) {
-        return BitsRead {
-            found: true,
+    if report_lines::matches(text, at, b"bits=-\n") {
+        return Some(BitsRead {
             bits: Bits::Dash,
             end: at + 7,
-        };
+        });
     }
-    let line = read_row(text, at, BITS_ROW);
-    BitsRead {
-        found: line.found,
+    let line = read_row(text, at, BITS_ROW)?;
+    Some(BitsRead {
         bits: Bits::Number(line.value),
         end: line.end,
-    }
+    })
 }
 
+// A report, whatever its sums are, and the place after its lines.
 #[derive(Clone, Copy)]
-struct Lines {
-    found: bool,
+struct LinesRead {
     report: Report,
     end: usize,
 }
 
-// What stands in an answer that has no report.
-const BLANK: Report = Report {
-    taken: 0,
-    filling: 0,
-    delivered: 0,
-    lost: 0,
-    waiting: 0,
-    outofstep: 0,
-    changed: 0,
-    bits: Bits::Absent,
-    rest: 0,
-};
-
-const NO_LINES: Lines = Lines {
-    found: false,
-    report: BLANK,
-    end: 0,
-};
-
 // Reads the lines of a report, whatever its sums are.
-fn read_lines(text: &[u8], at: usize) -> Lines
+fn read_lines(text: &[u8], at: usize) -> Option<LinesRead>
     requires { at ≤ length text.now }
-    ensures { Front text.now at result.found result.report result.end }
+    ensures { Front text.now at (is_some result) (found_or blank (λ l. l.report) result) (found_or 0 (λ l. l.end) result) }
 {
-    let rows = read_rows(text, at);
-    if !rows.found {
-        return NO_LINES;
-    }
-    let values = rows.values;
-    let bits = read_bits(text, rows.end, values[0]);
-    if !bits.found {
-        return NO_LINES;
-    }
-    let rest = read_row(text, bits.end, REST_ROW);
-    if !rest.found {
-        return NO_LINES;
-    }
-    let told = bits.bits;
-    Lines {
-        found: true,
+    let rows = read_rows(text, at)?;
+    let [
+        form,
+        taken,
+        filling,
+        delivered,
+        lost,
+        waiting,
+        outofstep,
+        changed,
+    ] = rows.values;
+    let bits = read_bits(text, rows.end, form)?;
+    let rest = read_row(text, bits.end, REST_ROW)?;
+    Some(LinesRead {
         report: Report {
-            taken: values[1],
-            filling: values[2],
-            delivered: values[3],
-            lost: values[4],
-            waiting: values[5],
-            outofstep: values[6],
-            changed: values[7],
-            bits: told,
+            taken,
+            filling,
+            delivered,
+            lost,
+            waiting,
+            outofstep,
+            changed,
+            bits: bits.bits,
             rest: rest.value,
         },
         end: rest.end,
-    }
-}
-
-fn least(a: u64, b: u64) -> u64
-    ensures { result ≡ min a b }
-{
-    if a < b { a } else { b }
+    })
 }
 
 // Whether the counts of a report add up.
@@ -229,75 +218,53 @@ fn sums_right(report: Report) -> bool
     requires { fits report ≡ true }
     ensures { result ≡ sums report }
 {
-    let taken = report.taken;
-    let filling = report.filling;
-    if filling + report.delivered + report.lost + report.waiting + report.outofstep != taken {
-        return false;
-    }
-    filling == least(taken, 11)
+    let sum = report.filling + report.delivered + report.lost + report.waiting + report.outofstep;
+    sum == report.taken && report.filling == report.taken.min(11)
 }
 
-// An answer, the report that was read, and the place after it; where none stands there, the place where it was to begin.
+// The report that was read, or why there is none, and the place after it; where none stands there, the place where it was to begin. The place
+// stands beside the answer, since there is one too where the sums of the report are wrong.
 #[derive(Clone, Copy)]
 pub struct FrontRead {
-    pub answer: Answer,
-    pub report: Report,
+    pub report: Result<Report, Refusal>,
     pub end: usize,
 }
 
 // Reads the report that a text has from a place on; more may follow.
 pub fn read_front(text: &[u8], at: usize) -> FrontRead
     requires { at ≤ length text.now }
-    ensures { ReadsReport (drop at text.now) (number_of result.answer) result.report (drop result.end text.now)
+    ensures { ReadsReport (drop at text.now) (answered result.report) (given_or blank (λ r. r) result.report) (drop result.end text.now)
         × (result.end ≤ length text.now)
-        × (number_of result.answer ≡ 17 → result.end ≡ at) }
+        × (answered result.report ≡ 17 → result.end ≡ at) }
 {
-    let lines = read_lines(text, at);
-    if !lines.found {
+    let Some(lines) = read_lines(text, at) else {
         return FrontRead {
-            answer: Answer::NotReport,
-            report: BLANK,
+            report: Err(Refusal::NotReport),
             end: at,
         };
-    }
-    let report = lines.report;
-    if !sums_right(report) {
+    };
+    if !sums_right(lines.report) {
         return FrontRead {
-            answer: Answer::WrongSums,
-            report: BLANK,
+            report: Err(Refusal::WrongSums),
             end: lines.end,
         };
     }
     FrontRead {
-        answer: Answer::Done,
-        report,
+        report: Ok(lines.report),
         end: lines.end,
     }
 }
 
-// An answer, and the report that was read.
-#[derive(Clone, Copy)]
-pub struct ReportRead {
-    pub answer: Answer,
-    pub report: Report,
-}
-
 // Reads a text that is to be one report and nothing else: more text after it is 17, whatever its sums are.
-pub fn read_report(text: &[u8]) -> ReportRead
-    ensures { ReadsWhole text.now (number_of result.answer) result.report }
+pub fn read_report(text: &[u8]) -> Result<Report, Refusal>
+    ensures { ReadsWhole text.now (answered result) (given_or blank (λ r. r) result) }
 {
     let read = read_front(text, 0);
-    let end = read.end;
-    let longer = end != text.len();
+    let longer = read.end != text.len();
     if longer {
-        return ReportRead {
-            answer: Answer::NotReport,
-            report: BLANK,
-        };
+        return Err(Refusal::NotReport);
     }
-    let answer = read.answer;
-    let report = read.report;
-    ReportRead { answer, report }
+    read.report
 }
 
 // Writes the line of a row of the table.
@@ -305,10 +272,7 @@ fn put_row(n: usize, value: u64, at: usize, output: &mut [u8]) -> usize
     requires { (n < 10) × (at + 31 ≤ length output.old) }
     ensures { Appended (line_text (row n).key value) output.old output.new at result (at + 31) }
 {
-    let keys = KEYS;
-    let from = STARTS[n];
-    let to = STARTS[n + 1];
-    report_lines::put_line(&keys[from..to], value, at, output)
+    report_lines::put_line(table_row(n).key, value, at, output)
 }
 
 // Writes the first eight lines at the front of the output.
@@ -317,10 +281,8 @@ fn put_rows(values: [u64; 8], output: &mut [u8]) -> usize
     ensures { Appended (lines_text 8 values) output.old output.new 0 result 248 }
 {
     let mut at: usize = 0;
-    let mut i: usize = 0;
-    while i < 8 {
+    for i in 0..8 {
         at = put_row(i, values[i], at, output);
-        i += 1;
     }
     at
 }
@@ -343,9 +305,8 @@ fn put_bits(bits: Bits, at: usize, output: &mut [u8]) -> usize
 fn numbers(report: Report) -> [u64; 8]
     ensures { result ≡ fields report }
 {
-    let bits = report.bits;
     [
-        form_of(bits),
+        form_of(report.bits),
         report.taken,
         report.filling,
         report.delivered,
@@ -362,8 +323,7 @@ fn compose(report: Report, text: &mut [u8]) -> usize
     ensures { Appended (report_text report) text.old text.new 0 result 310 }
 {
     let at = put_rows(numbers(report), text);
-    let bits = report.bits;
-    let at = put_bits(bits, at, text);
+    let at = put_bits(report.bits, at, text);
     put_row(REST_ROW, report.rest, at, text)
 }
 
@@ -371,12 +331,10 @@ fn compose(report: Report, text: &mut [u8]) -> usize
 fn counts_fit(values: [u64; 8]) -> bool
     ensures { result ≡ numbers_within 8 values }
 {
-    let mut i: usize = 0;
-    while i < 8 {
-        if LIMITS[i] < values[i] {
+    for i in 0..8 {
+        if table_row(i).limit < values[i] {
             return false;
         }
-        i += 1;
     }
     true
 }
@@ -385,61 +343,40 @@ fn bits_fit(bits: Bits) -> bool
     ensures { result ≡ bits_within bits }
 {
     match bits {
-        Bits::Absent => true,
-        Bits::Dash => true,
-        Bits::Number(n) => n <= LIMITS[8],
+        Bits::Absent | Bits::Dash => true,
+        Bits::Number(n) => n <= table_row(BITS_ROW).limit,
     }
 }
 
 fn report_fits(report: Report) -> bool
     ensures { result ≡ fits report }
 {
-    let bits = report.bits;
     if !counts_fit(numbers(report)) {
         return false;
     }
-    if !bits_fit(bits) {
+    if !bits_fit(report.bits) {
         return false;
     }
-    report.rest <= LIMITS[9]
+    report.rest <= table_row(REST_ROW).limit
 }
 
-// An answer, and how many bytes were written.
-#[derive(Clone, Copy)]
-pub struct Written {
-    pub answer: Answer,
-    pub length: usize,
-}
-
-// Writes a report in its form.
-pub fn write_report(report: Report, output: &mut [u8]) -> Written
-    ensures { WritesText (write_number report output.old) (report_text report) output.old (number_of result.answer) result.length output.new }
+// Writes a report in its form. Gives how many bytes were written.
+pub fn write_report(report: Report, output: &mut [u8]) -> Result<usize, Refusal>
+    ensures { WritesText (write_number report output.old) (report_text report) output.old (answered result) (given_or 0 (λ n. n) result) output.new }
 {
     if !report_fits(report) {
-        return Written {
-            answer: Answer::NotReport,
-            length: 0,
-        };
+        return Err(Refusal::NotReport);
     }
     if !sums_right(report) {
-        return Written {
-            answer: Answer::WrongSums,
-            length: 0,
-        };
+        return Err(Refusal::WrongSums);
     }
     let mut text = [0u8; 320];
     let n = compose(report, &mut text);
     if output.len() < n {
-        return Written {
-            answer: Answer::OutputLength,
-            length: 0,
-        };
+        return Err(Refusal::OutputLength);
     }
     common::put(&text[..n], 0, output);
-    Written {
-        answer: Answer::Done,
-        length: n,
-    }
+    Ok(n)
 }
 
 fn can_move(bits: Bits, form: u64) -> bool
@@ -462,34 +399,17 @@ fn other_bits(bits: Bits) -> Bits
     }
 }
 
-// Reads the report of a text, and writes it in the form wanted, 1 or 2, where it is in the other.
-pub fn move_report(text: &[u8], form: u64, output: &mut [u8]) -> Written
-    ensures { Moves text.now form output.old (number_of result.answer) result.length output.new }
+// Reads the report of a text, and writes it in the form wanted, 1 or 2, where it is in the other. Gives how many bytes were written.
+pub fn move_report(text: &[u8], form: u64, output: &mut [u8]) -> Result<usize, Refusal>
+    ensures { Moves text.now form output.old (answered result) (given_or 0 (λ n. n) result) output.new }
 {
-    let read = read_report(text);
-    let answer = read.answer;
-    if answer.number() != 0 {
-        return Written { answer, length: 0 };
+    let report = read_report(text)?;
+    if !can_move(report.bits, form) {
+        return Err(Refusal::FormKept);
     }
-    let report = read.report;
-    let bits = report.bits;
-    if !can_move(bits, form) {
-        return Written {
-            answer: Answer::FormKept,
-            length: 0,
-        };
-    }
-    let other = other_bits(bits);
     let next = Report {
-        taken: report.taken,
-        filling: report.filling,
-        delivered: report.delivered,
-        lost: report.lost,
-        waiting: report.waiting,
-        outofstep: report.outofstep,
-        changed: report.changed,
-        bits: other,
-        rest: report.rest,
+        bits: other_bits(report.bits),
+        ..report
     };
     write_report(next, output)
 }

@@ -40,19 +40,17 @@ fn move_input(system: &mut System, form: u64, input: Input, output: Output, erro
             errors,
         };
     }
-    let written = report::move_report(&buffer[..n], form, &mut text);
-    let answer = written.answer;
-    let size = written.length;
-    let number = answer.number();
-    let refused = number != 0;
-    if refused {
-        return Ended {
-            status: 1,
-            input,
-            output,
-            errors: tell_number(system, errors, number),
-        };
-    }
+    let size = match report::move_report(&buffer[..n], form, &mut text) {
+        Ok(size) => size,
+        Err(refusal) => {
+            return Ended {
+                status: 1,
+                input,
+                output,
+                errors: tell_number(system, errors, refusal.number()),
+            };
+        }
+    };
     let output = output.write_text(system, b"report", &text[..size]);
     let output = output.close(system, b"standard output");
     if output.failed() {
@@ -71,7 +69,7 @@ fn move_input(system: &mut System, form: u64, input: Input, output: Output, erro
     }
 }
 
-// The form that the words ask for, or 0, which is none.
+// The form that the words ask for, or 0, which is none: the definition in specs/Ends.antt counts with it.
 fn form_of(count: usize, first: Word) -> u64
     ensures { result ≡ form_of count (word_bytes first) }
 {

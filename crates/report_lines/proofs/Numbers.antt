@@ -1,14 +1,18 @@
 -- Reading at a place of a text: a word, and a number with its line feed.
 -- Assumes nothing.
-use mathlib.Core.Path.{◌≡◌, refl, sym, ap, ap₂, ◌∙◌}
+use mathlib.Core.Path.{◌≡◌, refl, sym, ap, ◌∙◌}
 use mathlib.Core.Bool.{Bool, true, false}
 use mathlib.Core.List.{List, [], ◌∷◌, ◌++◌, append_assoc, append-nil}
 use Prim.Native.Nat.{ℕ, ◌+◌, ◌-◌, ◌*◌, ◌≤◌, ◌<◌}
-use native.Mathlib.Nat.{add-zero}
 use native.Mathlib.Numerals.{add-one}
 use native.Mathlib.Omega.{arith}
-use lib.ListN.{length, get_or, take, drop, length-append, length-drop, drop_of_length-le, get_or-append}
-use lib.Seq.{take-suc, take_all, drop-cons, get_or-drop}
+use lib.ListN.{length, get_or, take, drop, length-append, length-drop, drop_of_length-le}
+use lib.Seq.{take_all, drop-cons}
+use lib.Dec.{eqb}
+use Rattle.std.proofs.lemmas.List.{drop-drop}
+use Rattle.std.proofs.lemmas.Bool.Decides.{Decides-eqb}
+use Rattle.std.proofs.lemmas.Slice.Eq.{starts_is}
+use Rattle.std.specs.List.{starts_with}
 use Rattle.common.proofs.Choice.{false_true}
 use Rattle.report_lines.specs.Line.{decimal}
 use Rattle.report_lines.specs.Reading.{DigitIs, WordIs, NumberRead, LineIs}
@@ -19,49 +23,19 @@ drop_next text i h = drop-cons text i 0 h ∙ ap (λ (n : ℕ). get_or text i 0 
 
 -- ---- a word
 
--- the first i characters of the word stand there
-pub record WordTo (word text : List ℕ) (at i : ℕ) : Type 0 where
-  pub output : at + length word ≤ length text
-  pub most : i ≤ length word
-  pub is : drop at text ≡ take i word ++ drop (at + i) text
-
-module _ {word text : List ℕ} {at : ℕ} where
-  pub word_none : at + length word ≤ length text → WordTo word text at 0
-  word_none h = record { output = h; most = omega arith; is = ap (λ (n : ℕ). drop n text) (sym (add-zero at)) }
-
-  pub word_more : {i : ℕ} → WordTo word text at i → i < length word → get_or text (at + i) 0 ≡ get_or word i 0 → WordTo word text at (i + 1)
-  word_more {i} w h e =
-      let output : at + length word ≤ length text = w.output in
-      let n : at + (i + 1) ≡ at + i + 1 = omega arith in
-      record {
-        output = output;
-        most = omega arith;
-        is =
-            w.is
-            ∙ ap (λ (l : List ℕ). take i word ++ l) (drop_next text (at + i) (omega arith) ∙ ap₂ (λ (c m : ℕ). c ∷ drop m text) e (sym n))
-            ∙ sym (append_assoc (take i word) (get_or word i 0 ∷ []) (drop (at + (i + 1)) text))
-            ∙ ap (λ (l : List ℕ). l ++ drop (at + (i + 1)) text) (sym (ap (λ (m : ℕ). take m word) (add-one i) ∙ take-suc word i 0 h));
-      }
-
-  pub word_all : {i : ℕ} → WordTo word text at i → length word ≤ i → WordIs word text at true
-  word_all {i} w h =
-      let e : i ≡ length word = omega (arith, w.most) in
-      record {
-        is = λ _. (w.output, w.is ∙ ap₂ (λ (l : List ℕ) (n : ℕ). l ++ drop (at + n) text) (take_all i word h) e);
-        none = λ d. false_true (sym d);
-      }
-
-  pub word_short : length text - at < length word → WordIs word text at false
-  word_short h = record {
-    is = λ d. false_true d;
-    none = λ d rest q. let l : length text - at ≡ length word + length rest = sym (length-drop at text) ∙ ap length q ∙ length-append word rest in omega arith;
-  }
-
-  pub word_differs : (i : ℕ) → i < length word → (get_or text (at + i) 0 ≡ get_or word i 0 → ⊥) → WordIs word text at false
-  word_differs i h n = record {
-    is = λ d. false_true d;
-    none = λ d rest q. n (sym (get_or-drop at text i 0) ∙ ap (λ (l : List ℕ). get_or l i 0) q ∙ get_or-append word rest 0 i h);
-  }
+-- what the library says of the text from a place on
+pub word_is : (word text : List ℕ) (at : ℕ) (found : Bool) → at ≤ length text → found ≡ starts_with eqb (take (length text - at) (drop at text)) word → WordIs word text at found
+word_is word text at found h e =
+    let n = length-drop at text in
+    let t : take (length text - at) (drop at text) ≡ drop at text = take_all (length text - at) (drop at text) (omega arith) in
+    let s = starts_is Decides-eqb (drop at text) word found (e ∙ ap (λ (l : List ℕ). starts_with eqb l word) t) in
+    record {
+      is = λ f.
+          let q = s.0 f in
+          let l : length text - at ≡ length word + length (drop (length word) (drop at text)) = sym (length-drop at text) ∙ ap length q ∙ length-append word (drop (length word) (drop at text)) in
+          (omega arith, q ∙ ap (λ (x : List ℕ). word ++ x) (drop-drop (length word) at text));
+      none = λ f rest q. false_true (sym f ∙ s.1 rest q);
+    }
 
 -- ---- a number
 
@@ -107,7 +81,7 @@ module _ (text : List ℕ) (at limit : ℕ) (top : limit < 1000000000000000000) 
 
   module _ (i value : ℕ) (n : NumberTo text at limit i value) where
     -- the text ends
-    pub none_end : length text ≤ i → NumberRead text at limit false value i
+    pub none_end : length text ≤ i → NumberRead text at limit false 0 0
     none_end h = no_number (λ v rest k q. no_number_end (drop at text) (decimal value) v rest (decimal_digits value)
         (n.is ∙ ap (λ (l : List ℕ). decimal value ++ l) (drop_of_length-le text h) ∙ append-nil (decimal value)) q)
 

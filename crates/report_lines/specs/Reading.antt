@@ -1,7 +1,12 @@
 -- What reading finds at a place of a text.
 -- Assumes nothing.
-use Rattle.std.specs.Prelude.{◌≡◌, Bool, true, false, List, ◌∷◌, ◌++◌, ℕ, ◌+◌, ◌≤◌, ◌<◌, length, drop}
+use Rattle.std.specs.Prelude.{◌≡◌, Option, None, Some, Bool, true, false, List, ◌∷◌, ◌++◌, ℕ, ◌+◌, ◌≤◌, ◌<◌, length, drop}
 use Rattle.report_lines.specs.Line.{decimal, line_text}
+
+-- what was found, by f, or what stands where nothing was
+abbrev pub found_or : {A B : Type 0} → B → (A → B) → Option A → B
+found_or none f None = none
+found_or none f (Some a) = f a
 
 -- a character that is a digit, and the digit d; 10 for any other
 pub record DigitIs (c d : ℕ) : Type 0 where

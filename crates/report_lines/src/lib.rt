@@ -2,9 +2,9 @@
 // Inner: its functions may require what the crates above have tested. docs/ARCHITECTURE.md names the public surface.
 #![tactic(auto)]
 
-ghost use Rattle.std.specs.Prelude.{◌+◌, ◌≤◌, ◌<◌, length};
+ghost use Rattle.std.specs.Prelude.{◌≡◌, true, ◌+◌, ◌≤◌, ◌<◌, length, is_some, unwrap_or};
 ghost use Rattle.report_lines.specs.Line.{decimal, field_text, line_text, Appended};
-ghost use Rattle.report_lines.specs.Reading.{DigitIs, WordIs, NumberRead, LineIs};
+ghost use Rattle.report_lines.specs.Reading.{found_or, DigitIs, WordIs, NumberRead, LineIs};
 
 // Writes a number at a place of the output. Gives the place after it.
 fn put_decimal(value: u64, at: usize, output: &mut [u8]) -> usize
@@ -36,78 +36,52 @@ pub fn put_line(key: &[u8], value: u64, at: usize, output: &mut [u8]) -> usize
     put_field(key, value, b'\n', at, output)
 }
 
-// The digit that a character is, or 10.
-fn digit(c: u8) -> u64
-    ensures { DigitIs c result }
+// The digit that a character is.
+fn digit(c: u8) -> Option<u64>
+    ensures is { DigitIs c (unwrap_or result 10) }
+    ensures small { is_some result ≡ true → unwrap_or result 10 < 10 }
 {
-    if c < 48 {
-        return 10;
+    if c < b'0' || b'9' < c {
+        return None;
     }
-    if c > 57 {
-        return 10;
-    }
-    (c - 48) as u64
+    Some(u64::from(c - b'0'))
 }
 
-// What was read: whether a line is there, its number and the place after it.
-#[derive(Clone, Copy)]
+// A line that was read: its number and the place after it.
+#[derive(Clone, Copy, PartialEq, Eq)]
 pub struct LineRead {
-    pub found: bool,
     pub value: u64,
     pub end: usize,
 }
 
-const NO_LINE: LineRead = LineRead {
-    found: false,
-    value: 0,
-    end: 0,
-};
-
 // Reads a number up to a limit, and the line feed after it. It stops at the first digit that takes the number past the limit, so that no
-// count of digits matters.
-fn read_number(text: &[u8], at: usize, limit: u64) -> LineRead
+// count of digits matters. Where the text ends with no line feed, there is none.
+fn read_number(text: &[u8], at: usize, limit: u64) -> Option<LineRead>
     requires { limit < 1000000000000000000 }
-    ensures { NumberRead text.now at limit result.found result.value result.end }
+    ensures { NumberRead text.now at limit (is_some result) (found_or 0 (λ l. l.value) result) (found_or 0 (λ l. l.end) result) }
 {
     if text.len() <= at {
-        return NO_LINE;
+        return None;
     }
-    let mut value = digit(text[at]);
-    if 10 <= value {
-        return NO_LINE;
-    }
+    let mut value = digit(text[at])?;
     if limit < value {
-        return NO_LINE;
+        return None;
     }
-    let mut i = at + 1;
-    while i < text.len() {
+    for i in at + 1..text.len() {
         let c = text[i];
         if c == b'\n' {
-            return LineRead {
-                found: true,
-                value,
-                end: i + 1,
-            };
+            return Some(LineRead { value, end: i + 1 });
         }
-        let d = digit(c);
-        if 10 <= d {
-            return NO_LINE;
-        }
+        let d = digit(c)?;
         if value == 0 {
-            return NO_LINE;
+            return None;
         }
         value = value * 10 + d;
         if limit < value {
-            return NO_LINE;
+            return None;
         }
-        i += 1;
     }
-    // The text ends, and no line feed came.
-    LineRead {
-        found: false,
-        value,
-        end: i,
-    }
+    None
 }
 
 // Whether a word stands at a place of a text.
@@ -115,26 +89,16 @@ pub fn matches(text: &[u8], at: usize, word: &[u8]) -> bool
     requires { at ≤ length text.now }
     ensures { WordIs word.now text.now at result }
 {
-    if text.len() - at < word.len() {
-        return false;
-    }
-    let mut i: usize = 0;
-    while i < word.len() {
-        if text[at + i] != word[i] {
-            return false;
-        }
-        i += 1;
-    }
-    true
+    text[at..].starts_with(word)
 }
 
 // Reads a line with this key and a number up to a limit.
-pub fn read_line(text: &[u8], at: usize, key: &[u8], limit: u64) -> LineRead
+pub fn read_line(text: &[u8], at: usize, key: &[u8], limit: u64) -> Option<LineRead>
     requires { (at ≤ length text.now) × (limit < 1000000000000000000) }
-    ensures { LineIs key.now text.now at limit result.found result.value result.end }
+    ensures { LineIs key.now text.now at limit (is_some result) (found_or 0 (λ l. l.value) result) (found_or 0 (λ l. l.end) result) }
 {
     if !matches(text, at, key) {
-        return NO_LINE;
+        return None;
     }
     read_number(text, at + key.len(), limit)
 }

@@ -10,14 +10,15 @@ use lib.IntN.{ℤ, pos}
 use lib.ListN.{length, take, length-append}
 use lib.Seq.{length-take-le}
 use Rattle.common.specs.Choice.{pick}
-use Rattle.answer.specs.Number.{number_of}
+use Rattle.std.specs.Prelude.{Result, is_ok}
+use Rattle.answer.specs.Number.{answered, given_or}
+use Rattle.answer.specs.declared.Refusal.{Refusal}
 use Rattle.season_totals.specs.Totals.{zero_totals}
 use Rattle.season_totals.specs.Season.{Seasons, season_text}
 use Rattle.season_totals.specs.Progress.{CameTo, SeasonCame, fresh_season, FeedsSeason, Finishes}
 use Rattle.season_totals.specs.declared.Season.{Season}
-use Rattle.season_totals.specs.declared.SeasonRead.{SeasonRead}
 use Rattle.season_totals.proofs.Decided.{season_exactly}
-use Rattle.season_totals.proofs.Histories.{fresh_came, came_ended, came_refused, going_short}
+use Rattle.season_totals.proofs.Histories.{fresh_came, came_ended, came_refused, came_some, going_short}
 use Rattle.program_io.specs.Checksum.{no_bytes, traced}
 use Rattle.program_io.specs.Files.{input_origin, origin_file, input_trace, input_ended, input_failed, input_over, output_file, output_failed, StandardInput, FreshOutput, Reads, Writes, Closes}
 use Rattle.program_io.specs.declared.trace.Trace.{Trace}
@@ -69,7 +70,7 @@ module _ {input : Input} {s : Season} {came : ℕ} (g : Going input s came) wher
       read_on =
           h.trace ∙ ap (λ (t : Trace). traced t (take f.length buffer)) g.read ∙ sym (traced_more no_bytes g.bytes (take f.length buffer))
 
-      pub going_more : number_of next.answer ≡ 0 → Going f.input next (came + f.length)
+      pub going_more : is_ok next.answer ≡ true → Going f.input next (came + f.length)
       going_more e =
           let k = p.fed g.bytes g.is in
           let l = length-append g.bytes (take f.length buffer) in
@@ -82,7 +83,7 @@ module _ {input : Input} {s : Season} {came : ℕ} (g : Going input s came) wher
             few = omega (arith, l, piece_length, g.counted, going_short k e);
           }
 
-      pub comes_refused : (number_of next.answer ≡ 0 → ⊥) → Comes (record { input = f.input; season = next })
+      pub comes_refused : is_ok next.answer ≡ false → Comes (record { input = f.input; season = next })
       comes_refused z = record {
         input_is = ap origin_file h.origin ∙ g.input_is;
         bytes = g.bytes ++ take f.length buffer;
@@ -108,47 +109,47 @@ module _ {input : Input} {s : Season} (c : Comes (record { input = input; season
       pub ends_output : output_failed k ≡ true → Ends (record { status = pos 1; input = input; output = k })
       ends_output e = record { input_is = c.input_is; output_is = file; status = part refl (output_failed_lem e) }
 
-      module _ {r : SeasonRead} (z : Finishes s r) (u : input_failed input ≡ false) (v : output_failed k ≡ false)
-          (t : text ≡ season_text (number_of r.answer) r.totals) where
+      module _ {r : Result (List ℕ) Refusal} (z : Finishes s r) (u : input_failed input ≡ false) (v : output_failed k ≡ false)
+          (t : text ≡ season_text (answered r) (given_or zero_totals (λ t. t) r)) where
         over_ended : input_over input ≡ true → input_ended input ≡ true
         over_ended a = ap (λ (b : Bool). pick b false (input_over input)) u ∙ a
 
         -- where the season was refused before the end, whatever follows
-        season : (more : List ℕ) → (input_ended input ≡ true → more ≡ []) → Seasons (c.bytes ++ more) (number_of r.answer) r.totals
+        season : (more : List ℕ) → (input_ended input ≡ true → more ≡ []) → Seasons (c.bytes ++ more) (answered r) (given_or zero_totals (λ t. t) r)
         season more e = by c.all
           where
-            by : (input_over input ≡ true) ⊎ (number_of s.answer ≡ 0 → ⊥) → Seasons (c.bytes ++ more) (number_of r.answer) r.totals
+            by : (input_over input ≡ true) ⊎ (is_ok s.answer ≡ false) → Seasons (c.bytes ++ more) (answered r) (given_or zero_totals (λ t. t) r)
             by (inl a) =
                 let n : more ≡ [] = e (over_ended a) in
-                subst (λ (l : List ℕ). Seasons l (number_of r.answer) r.totals) (sym (ap (λ (l : List ℕ). c.bytes ++ l) n ∙ append-nil c.bytes))
+                subst (λ (l : List ℕ). Seasons l (answered r) (given_or zero_totals (λ t. t) r)) (sym (ap (λ (l : List ℕ). c.bytes ++ l) n ∙ append-nil c.bytes))
                 (z.season c.bytes c.is)
             by (inr a) = z.season (c.bytes ++ more) (came_ended c.is a more)
 
-        printed : (status : ℤ) → Printed (number_of r.answer) (record { status = status; input = input; output = k })
+        printed : (status : ℤ) → Printed (answered r) (record { status = status; input = input; output = k })
         printed status = record {
           bytes = c.bytes;
           read = c.read;
           unfailed = u;
-          totals = r.totals;
+          totals = given_or zero_totals (λ t. t) r;
           season = season;
           written = q.trace ∙ p.whole (q.started v) ∙ ap (λ (x : Trace). traced x text) f.trace ∙ ap (traced no_bytes) t;
           written_whole = v;
           closed = q.closed v;
         }
 
-        pub ends_refused : (number_of r.answer ≡ 0 → ⊥) → Ends (record { status = pos 1; input = input; output = k })
-        ends_refused n = record { input_is = c.input_is; output_is = file; status = refused (number_of r.answer) refl n (printed (pos 1)) }
+        pub ends_refused : (answered r ≡ 0 → ⊥) → Ends (record { status = pos 1; input = input; output = k })
+        ends_refused n = record { input_is = c.input_is; output_is = file; status = refused (answered r) refl n (printed (pos 1)) }
 
         -- a season that is refused before its end stays refused, so this one was read to its end
-        pub ends_whole : number_of r.answer ≡ 0 → Ends (record { status = pos 0; input = input; output = k })
+        pub ends_whole : answered r ≡ 0 → Ends (record { status = pos 0; input = input; output = k })
         ends_whole n = record {
           input_is = c.input_is;
           output_is = file;
           status = whole refl (ended c.all) (subst (λ (m : ℕ). Printed m (record { status = pos 0; input = input; output = k })) n (printed (pos 0)));
         }
           where
-            ended : (input_over input ≡ true) ⊎ (number_of s.answer ≡ 0 → ⊥) → input_ended input ≡ true
+            ended : (input_over input ≡ true) ⊎ (is_ok s.answer ≡ false) → input_ended input ≡ true
             ended (inl a) = over_ended a
             ended (inr a) =
-                let d = (season_exactly c.bytes (number_of r.answer) r.totals (z.season c.bytes c.is)).read n in
-                absurd (a ((season_exactly c.bytes (number_of s.answer) zero_totals (came_refused c.is a)).written d.0 d.1).0)
+                let d = (season_exactly c.bytes (answered r) (given_or zero_totals (λ t. t) r) (z.season c.bytes c.is)).read n in
+                absurd (came_some c.is a ((season_exactly c.bytes (answered s.answer) zero_totals (came_refused c.is a)).written d.0 d.1).0)

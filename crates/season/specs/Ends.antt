@@ -1,8 +1,7 @@
 -- How a run of season may end, and what its status then says. The files are values of program_io, which its reads and writes alone make.
 -- Clause: document 02, P13.
 -- Assumes nothing.
-use Rattle.std.specs.Prelude.{◌≡◌, true, false, List, [], ◌∷◌, ◌++◌, ◌⊎◌, ℕ, ℤ, pos}
-use Rattle.answer.specs.Number.{number_of}
+use Rattle.std.specs.Prelude.{◌≡◌, true, false, is_ok, List, [], ◌∷◌, ◌++◌, ◌⊎◌, ℕ, ℤ, pos}
 use Rattle.season_totals.specs.Season.{Seasons, season_text}
 use Rattle.season_totals.specs.Progress.{CameTo}
 use Rattle.program_io.specs.Checksum.{no_bytes, traced}
@@ -21,7 +20,7 @@ pub record Comes (r : SeasonCame) : Type 0 where
   pub bytes : List ℕ
   pub read : input_trace r.input ≡ traced no_bytes bytes
   pub is : CameTo bytes r.season
-  pub all : (input_over r.input ≡ true) ⊎ (number_of r.season.answer ≡ 0 → ⊥)
+  pub all : (input_over r.input ≡ true) ⊎ (is_ok r.season.answer ≡ false)
 
 -- These bytes were read. With whatever follows them, and nothing does where the input has ended, they are a season with this answer and these totals,
 -- and its text was written to standard output, which was closed.

@@ -36,6 +36,7 @@ fn read_season(system: &mut System, input: Input) -> SeasonCame
     let mut season = Season::new();
     let mut came: u64 = 0;
     let mut buffer = [0u8; 65536];
+    // A `loop`: it ends where the input does.
     loop {
         let read = input.read(system, b"standard input", &mut buffer, 65536);
         let n = read.length;
@@ -43,11 +44,9 @@ fn read_season(system: &mut System, input: Input) -> SeasonCame
         if n == 0 {
             return SeasonCame { input, season };
         }
-        let next = season.feed(&buffer[..n]);
-        season = next;
+        season = season.feed(&buffer[..n]);
         came += n as u64;
-        let answer = season.answer;
-        if answer.number() != 0 {
+        if season.answer.is_err() {
             return SeasonCame { input, season };
         }
     }
@@ -67,7 +66,6 @@ fn write_season(system: &mut System, input: Input, season: Season, output: Outpu
     }
     let mut text = [0u8; 160];
     let read = season.finish();
-    let answer = read.answer;
     let n = season_totals::compose(read, &mut text);
     let output = output.write_text(system, b"season", &text[..n]);
     let output = output.close(system, b"standard output");
@@ -78,7 +76,7 @@ fn write_season(system: &mut System, input: Input, season: Season, output: Outpu
             output,
         };
     }
-    if answer.number() != 0 {
+    if read.is_err() {
         return SeasonEnded {
             status: 1,
             input,

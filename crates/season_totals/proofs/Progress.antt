@@ -1,6 +1,6 @@
 -- Reports read from the front of what follows those counted: one more, a refusal, the end; and that more bytes behind do not matter.
 -- Assumes nothing.
-use mathlib.Core.Path.{◌≡◌, refl, sym, ap, ◌∙◌}
+use mathlib.Core.Path.{◌≡◌, refl, sym, ap, subst, ◌∙◌}
 use mathlib.Core.Bool.{true}
 use mathlib.Core.List.{List, [], ◌∷◌, ◌++◌, append_assoc}
 use Prim.Native.Nat.{ℕ, suc, ◌+◌, ◌-◌, ◌*◌, ◌≤◌, ◌<◌}
@@ -10,9 +10,13 @@ use lib.ListN.{length, get_or, take, drop, length-append, length-drop, take-appe
 use lib.Seq.{take_at, take-append-le, length-take-le}
 use Rattle.common.specs.Lists.{All, placed, total}
 use Rattle.report_lines.specs.Line.{decimal, line_text}
+use Rattle.std.specs.Prelude.{Result, Ok, Err}
+use Rattle.answer.proofs.Positive.{number_positive}
+use Rattle.answer.specs.Number.{number_of, answered, given_or}
+use Rattle.answer.specs.declared.Refusal.{Refusal}
 use Rattle.report.specs.declared.Report.{Report}
 use Rattle.report.specs.Text.{fits, report_text, row, lines_text, fields, bits_text}
-use Rattle.report.specs.Read.{ReadsReport, front, front_wrong, front_none}
+use Rattle.report.specs.Read.{blank, ReadsReport, front, front_wrong, front_none}
 use Rattle.report.proofs.Answers.{read-report}
 use Rattle.report.proofs.Counting.{Small, fits_small}
 use Rattle.report.proofs.Fronts.{report_short}
@@ -187,3 +191,16 @@ counted_next o number r end h w e n = record {
   place = h;
   is = λ bytes u. unread_next (o.is bytes u) number r _ w e (unread_fewer (o.is bytes u) n);
 }
+
+-- ---- what reading the front of a text gave, by its two cases
+
+pub read_ok : {t x : List ℕ} {q : Result Report Refusal} {r : Report} → ReadsReport t (answered q) (given_or blank (λ (s : Report). s) q) x → q ≡ Ok r
+    → ReadsReport t 0 r x
+read_ok {t} {x} w e = subst (λ (p : Result Report Refusal). ReadsReport t (answered p) (given_or blank (λ (s : Report). s) p) x) e w
+
+pub read_err : {t x : List ℕ} {q : Result Report Refusal} {a : Refusal} → ReadsReport t (answered q) (given_or blank (λ (s : Report). s) q) x → q ≡ Err a
+    → ReadsReport t (number_of a) blank x
+read_err {t} {x} w e = subst (λ (p : Result Report Refusal). ReadsReport t (answered p) (given_or blank (λ (s : Report). s) p) x) e w
+
+pub err_some : (a : Refusal) → number_of a ≡ 0 → ⊥
+err_some a z = omega (arith, number_positive a)

@@ -1,6 +1,8 @@
 -- What a season answers for a text of pass reports, one after another, and what is printed of it: document 02, P13.
 -- Assumes nothing.
-use Rattle.std.specs.Prelude.{◌≡◌, true, List, [], ◌∷◌, ◌++◌, ℕ, ◌≤◌, ◌<◌, eqb, length, get_or}
+use Rattle.std.specs.Prelude.{◌≡◌, true, Result, Ok, Err, List, [], ◌∷◌, ◌++◌, ℕ, ◌≤◌, ◌<◌, eqb, length, get_or}
+use Rattle.answer.specs.Number.{number_of}
+use Rattle.answer.specs.declared.Refusal.{Refusal}
 use Rattle.common.specs.Choice.{pick}
 use Rattle.common.specs.Lists.{All}
 use Rattle.report_lines.specs.Line.{line_text}
@@ -70,3 +72,8 @@ totals_text t =
 -- what is printed: the five lines, or the number of the refusal and a line feed
 abbrev pub season_text : ℕ → List ℕ → List ℕ
 season_text number totals = pick (eqb number 0) (totals_text totals) (line_text [] number)
+
+-- the same of what reading gives: the totals, or a refusal
+abbrev pub read_text : Result (List ℕ) Refusal → List ℕ
+read_text (Ok totals) = totals_text totals
+read_text (Err refusal) = line_text [] (number_of refusal)

@@ -4,15 +4,15 @@
 // require that it came of feeding a fresh one.
 #![tactic(auto)]
 
-ghost use Rattle.std.specs.Prelude.{◌≡◌, true, ◌++◌, ◌+◌, ◌*◌, ◌≤◌, ◌<◌, min, ltb, length, get_or, take};
-ghost use Rattle.answer.specs.Number.{number_of};
+ghost use Rattle.std.specs.Prelude.{◌≡◌, true, Err, ◌++◌, ◌+◌, ◌*◌, ◌≤◌, ◌<◌, ltb, length, get_or, take};
+ghost use Rattle.answer.specs.Number.{answered, given_or};
 ghost use Rattle.report_lines.specs.Line.{Appended};
 ghost use Rattle.report.specs.Text.{fits};
-ghost use Rattle.season_totals.specs.Totals.{wide, accepted, beats, counted_report, TotalsFit};
-ghost use Rattle.season_totals.specs.Season.{Seasons, season_text};
+ghost use Rattle.season_totals.specs.Totals.{wide, zero_totals, accepted, beats, counted_report, TotalsFit};
+ghost use Rattle.season_totals.specs.Season.{Seasons, read_text};
 ghost use Rattle.season_totals.specs.Progress.{fresh_season, SeasonCame, FeedsSeason, Finishes, ReportsBegun, CountsRest, TakesUnread};
 
-use answer::Answer;
+use answer::Refusal;
 use report::Report;
 use report_lines::put_line;
 
@@ -96,53 +96,34 @@ fn count_report(totals: [u64; 7], report: Report) -> [u64; 7]
     ]
 }
 
-// An answer, and the totals: zeros where it is a refusal.
-#[derive(Clone, Copy)]
-pub struct SeasonRead {
-    pub answer: Answer,
-    pub totals: [u64; 7],
-}
-
 // A season in progress: the first refusal, or that there was none; the totals of the reports that were read; and the bytes after them, at
-// the front of a buffer that is longer than any report.
+// the front of a buffer that is longer than any report, since no memory is taken for them.
 #[derive(Clone, Copy)]
 pub struct Season {
-    pub answer: Answer,
+    pub answer: Result<(), Refusal>,
     pub totals: [u64; 7],
     pub pending: [u8; 320],
     pub held: usize,
 }
 
 // Reads the reports of a text that stands after those counted.
-fn count_rest(counted: [u64; 7], text: &[u8]) -> SeasonRead
+fn count_rest(counted: [u64; 7], text: &[u8]) -> Result<[u64; 7], Refusal>
     requires { ReportsBegun counted text.now }
     ensures { CountsRest counted text.now result }
 {
     let mut totals = counted;
     let mut at: usize = 0;
+    // A `while`: each report says where the next one begins.
     while at < text.len() {
         if totals[0] == MOST {
-            return SeasonRead {
-                answer: Answer::TooManyReports,
-                totals: [0u64; 7],
-            };
+            return Err(Refusal::TooManyReports);
         }
         let read = report::read_front(text, at);
-        let answer = read.answer;
-        if answer.number() != 0 {
-            return SeasonRead {
-                answer,
-                totals: [0u64; 7],
-            };
-        }
-        let report = read.report;
+        let report = read.report?;
         totals = count_report(totals, report);
         at = read.end;
     }
-    SeasonRead {
-        answer: Answer::Done,
-        totals,
-    }
+    Ok(totals)
 }
 
 // The first bytes of a buffer, and others after them.
@@ -156,11 +137,11 @@ fn appended(pending: [u8; 320], held: usize, bytes: &[u8]) -> [u8; 320]
 }
 
 // A season that ended with a refusal.
-fn stopped(answer: Answer) -> Season
-    ensures { (result.answer ≡ answer) × (result.held ≡ 0) }
+fn stopped(refusal: Refusal) -> Season
+    ensures { (result.answer ≡ Err refusal) × (result.held ≡ 0) }
 {
     Season {
-        answer,
+        answer: Err(refusal),
         totals: [0u64; 7],
         pending: [0u8; 320],
         held: 0,
@@ -173,18 +154,15 @@ fn take_front(totals: [u64; 7], buffer: [u8; 320]) -> Season
     ensures { TakesUnread totals buffer result }
 {
     let read = report::read_front(&buffer, 0);
-    let answer = read.answer;
-    if answer.number() != 0 {
-        return stopped(answer);
-    }
-    let report = read.report;
+    let report = match read.report {
+        Ok(report) => report,
+        Err(refusal) => return stopped(refusal),
+    };
     let end = read.end;
-    let next = count_report(totals, report);
-    let pending = appended([0u8; 320], 0, &buffer[end..]);
     Season {
-        answer: Answer::Done,
-        totals: next,
-        pending,
+        answer: Ok(()),
+        totals: count_report(totals, report),
+        pending: appended([0u8; 320], 0, &buffer[end..]),
         held: 320 - end,
     }
 }
@@ -194,34 +172,23 @@ fn take_part(season: Season, part: &[u8]) -> Season
     requires { (SeasonCame season) × (0 < length part.now) × (season.held + length part.now ≤ 320) }
     ensures { FeedsSeason season part.now result }
 {
-    let answer = season.answer;
-    let totals = season.totals;
-    let pending = season.pending;
-    let held = season.held;
-    if answer.number() != 0 {
+    if season.answer.is_err() {
         return season;
     }
-    if totals[0] == MOST {
-        return stopped(Answer::TooManyReports);
+    if season.totals[0] == MOST {
+        return stopped(Refusal::TooManyReports);
     }
-    let buffer = appended(pending, held, part);
-    let filled = held + part.len();
+    let buffer = appended(season.pending, season.held, part);
+    let filled = season.held + part.len();
     if filled < 320 {
         return Season {
-            answer: Answer::Done,
-            totals,
+            answer: Ok(()),
+            totals: season.totals,
             pending: buffer,
             held: filled,
         };
     }
-    take_front(totals, buffer)
-}
-
-// The smaller of two numbers.
-fn smaller(a: usize, b: usize) -> usize
-    ensures { result ≡ min a b }
-{
-    if a < b { a } else { b }
+    take_front(season.totals, buffer)
 }
 
 impl Season {
@@ -229,10 +196,9 @@ impl Season {
     pub fn new() -> Season
         ensures { result ≡ fresh_season }
     {
-        let totals = [0u64; 7];
         Season {
-            answer: Answer::Done,
-            totals,
+            answer: Ok(()),
+            totals: [0u64; 7],
             pending: [0u8; 320],
             held: 0,
         }
@@ -245,58 +211,45 @@ impl Season {
     {
         let mut season = self;
         let mut at: usize = 0;
+        // A `while`: a part is as long as the buffer has room for.
         while at < piece.len() {
-            let held = season.held;
-            let end = at + smaller(320 - held, piece.len() - at);
-            let next = take_part(season, &piece[at..end]);
-            season = next;
+            let end = at + (320 - season.held).min(piece.len() - at);
+            season = take_part(season, &piece[at..end]);
             at = end;
         }
         season
     }
 
     // The season of all that came.
-    pub fn finish(self) -> SeasonRead
+    pub fn finish(self) -> Result<[u64; 7], Refusal>
         requires { SeasonCame self }
         ensures { Finishes self result }
     {
-        let answer = self.answer;
-        let totals = self.totals;
-        let pending = self.pending;
-        let held = self.held;
-        if answer.number() != 0 {
-            return SeasonRead {
-                answer,
-                totals: [0u64; 7],
-            };
-        }
-        count_rest(totals, &pending[..held])
+        self.answer?;
+        count_rest(self.totals, &self.pending[..self.held])
     }
 }
 
 // The season of a text.
-pub fn read_season(text: &[u8]) -> SeasonRead
-    ensures { Seasons text.now (number_of result.answer) result.totals }
+pub fn read_season(text: &[u8]) -> Result<[u64; 7], Refusal>
+    ensures { Seasons text.now (answered result) (given_or zero_totals (λ t. t) result) }
 {
-    let fresh = Season::new();
-    let season = fresh.feed(text);
-    season.finish()
+    Season::new().feed(text).finish()
 }
 
 // Writes what is printed of a season to the front of a text of 160 bytes, which is more than it has. Gives its length.
-pub fn compose(read: SeasonRead, text: &mut [u8]) -> usize
+pub fn compose(read: Result<[u64; 7], Refusal>, text: &mut [u8]) -> usize
     requires { length text.old ≡ 160 }
-    ensures { Appended (season_text (number_of read.answer) read.totals) text.old text.new 0 result 160 }
+    ensures { Appended (read_text read) text.old text.new 0 result 160 }
 {
-    let answer = read.answer;
-    let totals = read.totals;
-    let number = answer.number();
-    if number != 0 {
-        return put_line(b"", number as u64, 0, text);
+    match read {
+        Ok(totals) => {
+            let at = put_line(b"passes=", totals[0], 0, text);
+            let at = put_line(b"taken=", totals[1], at, text);
+            let at = put_line(b"lost=", totals[2], at, text);
+            let at = put_line(b"changed=", totals[3], at, text);
+            put_line(b"worst=", totals[4], at, text)
+        }
+        Err(refusal) => put_line(b"", u64::from(refusal.number()), 0, text),
     }
-    let at = put_line(b"passes=", totals[0], 0, text);
-    let at = put_line(b"taken=", totals[1], at, text);
-    let at = put_line(b"lost=", totals[2], at, text);
-    let at = put_line(b"changed=", totals[3], at, text);
-    put_line(b"worst=", totals[4], at, text)
 }

@@ -30,14 +30,18 @@ fn write_sent(rt: HostRuntime, answer: u8, symbols: &[u8]) {
 
 // A call with an input.
 fn call(rt: HostRuntime, sender: Sender, input: &[u8], output: &mut [u8]) -> Called {
-    let sent = sender.send(input, output);
-    let answer = sent.answer;
-    let count = sent.count;
-    let next = sent.sender;
-    write_sent(rt, answer.number(), &output[..count]);
-    Called {
-        sender: next,
-        more: true,
+    match sender.send(input, output) {
+        Ok(sent) => {
+            write_sent(rt, sent.number(), &output[..sent.count]);
+            Called {
+                sender: sent.sender,
+                more: true,
+            }
+        }
+        Err(refusal) => {
+            write_sent(rt, refusal.number(), &[]);
+            Called { sender, more: true }
+        }
     }
 }
 
@@ -80,16 +84,15 @@ fn wide(length: u8) -> usize
     length as usize
 }
 
-// A proved loop has to end, and nothing says that an input does: the loop counts its turns down, from a number that no run uses up.
+// A proved loop has to end, and nothing says that an input does: the loop has more turns than any run uses up.
 fn call_all(rt: HostRuntime, sender: Sender) {
     let mut sender = sender;
-    let mut more = true;
-    let mut turns = u64::MAX;
-    while turns > 0 && more {
+    for _ in 0..u64::MAX {
         let called = call_next(rt, sender);
-        more = called.more;
         sender = called.sender;
-        turns -= 1;
+        if !called.more {
+            return;
+        }
     }
 }
 
@@ -102,11 +105,8 @@ fn main(rt: HostRuntime) {
     if digit < b'0' {
         return;
     }
-    let created = Sender::new(digit - b'0');
-    let answer = created.answer;
-    if answer.number() != 0 {
+    let Ok(sender) = Sender::new(digit - b'0') else {
         return;
-    }
-    let sender = created.sender;
+    };
     call_all(rt, sender);
 }

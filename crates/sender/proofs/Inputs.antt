@@ -68,11 +68,6 @@ pub packet_lengths : (inputs : List (List ℕ)) → All Input inputs → All (Le
 packet_lengths [] g = tt
 packet_lengths (p ∷ ps) g = (packet_size p (input_test p g.0), packet_lengths ps g.1)
 
--- an empty input does not begin with the sync byte
-pub nothing_synced : (input : List ℕ) → length input ≡ 0 → is_synced input ≡ false
-nothing_synced [] e = refl
-nothing_synced (b ∷ bs) e = absurd (omega arith)
-
 packet_bytes : (input : List ℕ) → Bytes input → Bytes (packet_for input)
 unfolding packet_for
 packet_bytes input h = by (is_synced input)

@@ -1,7 +1,9 @@
 -- What one call of the sender gives: the answer's number, by its tests in the order of document 01, the symbols, the sender after it and the output.
 -- Clauses: document 02, P2 and P12.
 -- Assumes nothing.
-use Rattle.std.specs.Prelude.{◌≡◌, Bool, false, List, [], ◌∷◌, ◌++◌, ℕ, ◌+◌, ◌%◌, ltb, eqb, length, drop}
+use Rattle.std.specs.Prelude.{◌≡◌, Bool, false, List, [], ◌∷◌, ◌++◌, ℕ, ◌+◌, ◌%◌, ltb, eqb, length, drop, Result, Ok, Err}
+use Rattle.answer.specs.Number.{number_of}
+use Rattle.answer.specs.declared.Refusal.{Refusal}
 use Rattle.common.specs.Choice.{pick}
 use Rattle.common.specs.Refusal.{unless, when, first_due}
 use Rattle.reed_solomon.specs.Encode.{encoded}
@@ -14,6 +16,7 @@ use Rattle.inner_code.specs.Step.{in_range_by}
 use Rattle.inner_code.specs.Encode.{fresh_coder, block_symbols_by, block_coder_by, symbol_count_by}
 use Rattle.sender.specs.Input.{is_input, packet_for, sent_number}
 use Rattle.sender.specs.declared.Sender.{Sender}
+use Rattle.sender.specs.declared.Sent.{Sent}
 
 -- a fresh sender: the first place of a group, empty branches, a fresh inner coder
 unfoldable pub fresh_sender : ℕ → Sender
@@ -71,6 +74,11 @@ send_sender t s input output = pick (eqb (send_refusal t s input output) 0) (sen
 abbrev pub send_output : (ℕ → Mode) → Sender → List ℕ → List ℕ → List ℕ
 send_output t s input output =
     pick (eqb (send_refusal t s input output) 0) (sent_symbols t s (packet_for input) ++ drop (sent_count t s) output) output
+
+-- the number of what a call answers: 15 where a null packet was sent
+abbrev pub sent_answer : Result Sent Refusal → ℕ
+sent_answer (Ok sent) = pick sent.replaced 15 0
+sent_answer (Err refusal) = number_of refusal
 
 -- what a call promises
 pub record Sends (t : ℕ → Mode) (s : Sender) (input output : List ℕ) (number count : ℕ) (next : Sender) (left : List ℕ) : Type 0 where

@@ -1,14 +1,15 @@
 // The sending chain: randomizing, outer code, interleaving and inner code, packet by packet. EN 300 421, 4.4 and 4.5, and for 16QAM EN 301 210, 4.6.
 #![tactic(auto)]
 
-ghost use Rattle.std.specs.Prelude.{◌≡◌, true, ◌++◌, ◌≤◌, length, get_or, drop};
-ghost use Rattle.answer.specs.Number.{number_of};
+ghost use Rattle.std.specs.Prelude.{◌≡◌, true, ◌++◌, ◌≤◌, ◌<◌, length, get_or, drop, IsOk, IfOk, IfErr};
+ghost use Rattle.common.specs.Choice.{pick};
+ghost use Rattle.answer.specs.Number.{number_of, answered, given_or};
 ghost use Rattle.puncturing.specs.Mode.{mode_of};
 ghost use Rattle.inner_code.specs.Encode.{new_number};
 ghost use Rattle.sender.specs.Input.{is_input, is_synced, null_packet};
-ghost use Rattle.sender.specs.Send.{fresh_sender, sender_in_range, sent_symbols, sent_count, sender_after, is_sent, Sends};
+ghost use Rattle.sender.specs.Send.{fresh_sender, sender_in_range, sent_symbols, sent_count, sender_after, is_sent, Sends, sent_answer};
 
-use answer::Answer;
+use answer::Refusal;
 use inner_code::InnerCoder;
 use interleaver::Interleaver;
 
@@ -21,21 +22,21 @@ pub struct Sender {
     pub coder: InnerCoder,
 }
 
-// A fresh sender. The answer stands beside the state, since an enum cannot hold a state with arrays.
-// Where the answer is 6 the sender holds the rate that was wanted, and every call refuses it: with 5 where there is no such mode, with 6 where the
-// mode is not sent.
+// How many symbols were written, whether a null packet was sent in place of the input, and the sender after it.
 #[derive(Clone, Copy)]
-pub struct SenderCreated {
-    pub answer: Answer,
+pub struct Sent {
+    pub count: usize,
+    pub replaced: bool,
     pub sender: Sender,
 }
 
-// An answer, how many symbols were written, and the sender after it.
-#[derive(Clone, Copy)]
-pub struct Sent {
-    pub answer: Answer,
-    pub count: usize,
-    pub sender: Sender,
+impl Sent {
+    // The number of the answer: 15 where a null packet was sent, else 0.
+    pub fn number(self) -> u8
+        ensures { result ≡ pick self.replaced 15 0 }
+    {
+        if self.replaced { 15 } else { 0 }
+    }
 }
 
 impl Sender {
@@ -48,20 +49,26 @@ impl Sender {
     // The packets of a group.
     pub const GROUP_LENGTH: u8 = 8;
 
-    pub fn new(rate: u8) -> SenderCreated
-        ensures { (number_of result.answer ≡ new_number rate) × (result.sender ≡ fresh_sender rate) }
+    // A fresh sender, in a mode that is sent.
+    pub fn new(rate: u8) -> Result<Sender, Refusal>
+        ensures number { answered result ≡ new_number rate }
+        ensures fresh { IfOk result (λ s. s ≡ fresh_sender rate) }
     {
-        let created = InnerCoder::new(rate);
-        let answer = created.answer;
-        let coder = created.coder;
-        let interleaver = Interleaver::new();
-        SenderCreated {
-            answer,
-            sender: Sender {
-                place: 0,
-                interleaver,
-                coder,
-            },
+        if !puncturing::is_sent(rate) {
+            return Err(Refusal::UnknownRate);
+        }
+        Ok(Sender::fresh(rate))
+    }
+
+    // A fresh sender at a rate, sent or not. Where it is not, every call refuses the sender: with 5 where there is no such mode, with 6 where the
+    // mode is not sent.
+    pub fn fresh(rate: u8) -> Sender
+        ensures { result ≡ fresh_sender rate }
+    {
+        Sender {
+            place: 0,
+            interleaver: Interleaver::new(),
+            coder: InnerCoder::fresh(rate),
         }
     }
 
@@ -69,64 +76,32 @@ impl Sender {
     pub fn in_range(self) -> bool
         ensures { result ≡ sender_in_range mode_of self }
     {
-        let place = self.place;
-        if place > 7 {
-            return false;
-        }
-        let interleaver = self.interleaver;
-        if !interleaver.in_range() {
-            return false;
-        }
-        let coder = self.coder;
-        coder.in_range()
+        self.place <= 7 && self.interleaver.in_range() && self.coder.in_range()
     }
 
     // Sends a packet: writes its symbols. For no bytes, and for 188 that do not begin with the sync byte, a null packet is sent.
-    pub fn send(self, input: &[u8], output: &mut [u8]) -> Sent
-        ensures { Sends mode_of self input.now output.old (number_of result.answer) result.count result.sender output.new }
+    pub fn send(self, input: &[u8], output: &mut [u8]) -> Result<Sent, Refusal>
+        ensures sends { Sends mode_of self input.now output.old
+            (sent_answer result) (given_or 0 (λ s. s.count) result) (given_or self (λ s. s.sender) result) output.new }
+        ensures refused { IfErr result (λ refusal. number_of refusal < 15) }
     {
         if !self.in_range() {
-            return Sent {
-                answer: Answer::StateRange,
-                count: 0,
-                sender: self,
-            };
+            return Err(Refusal::StateRange);
         }
-        let coder = self.coder;
-        let rate = coder.rate;
-        if !puncturing::is_sent(rate) {
-            return Sent {
-                answer: Answer::UnknownRate,
-                count: 0,
-                sender: self,
-            };
+        if !puncturing::is_sent(self.coder.rate) {
+            return Err(Refusal::UnknownRate);
         }
         if !is_input(input) {
-            return Sent {
-                answer: Answer::PacketLength,
-                count: 0,
-                sender: self,
-            };
+            return Err(Refusal::PacketLength);
         }
-        if output.len() < coder.symbol_count() {
-            return Sent {
-                answer: Answer::OutputLength,
-                count: 0,
-                sender: self,
-            };
+        if output.len() < self.coder.symbol_count() {
+            return Err(Refusal::OutputLength);
         }
         if is_synced(input) {
-            return transmit(self, input, output);
+            return transmit(self, input, false, output);
         }
         let null = null_packet();
-        let sent = transmit(self, &null, output);
-        let count = sent.count;
-        let sender = sent.sender;
-        Sent {
-            answer: Answer::NullPacket,
-            count,
-            sender,
-        }
+        transmit(self, &null, true, output)
     }
 }
 
@@ -134,20 +109,14 @@ impl Sender {
 fn is_input(input: &[u8]) -> bool
     ensures { result ≡ is_input input.now }
 {
-    if input.len() == 0 {
-        return true;
-    }
-    input.len() == Sender::PACKET_LENGTH
+    input.len() == 0 || input.len() == Sender::PACKET_LENGTH
 }
 
 // Whether it begins with the sync byte. False for an empty input.
 fn is_synced(input: &[u8]) -> bool
     ensures { result ≡ is_synced input.now }
 {
-    if input.len() == 0 {
-        return false;
-    }
-    input[0] == 0x47
+    input.len() > 0 && input[0] == 0x47
 }
 
 // The null packet: packet identifier 1FFF hex, a payload of bytes FF.
@@ -161,35 +130,35 @@ fn null_packet() -> [u8; Sender::PACKET_LENGTH]
     packet
 }
 
-// Sends a packet with a sender that is in range, in a mode that is sent, and room enough.
-fn transmit(sender: Sender, packet: &[u8], output: &mut [u8]) -> Sent
+// Sends a packet with a sender that is in range, in a mode that is sent, and room enough. No stage refuses it.
+fn transmit(
+    sender: Sender,
+    packet: &[u8],
+    replaced: bool,
+    output: &mut [u8],
+) -> Result<Sent, Refusal>
     requires { (sender_in_range mode_of sender ≡ true) × (is_sent mode_of sender ≡ true) × (length packet.now ≡ 188) × (get_or packet.now 0 0 ≡ 0x47) × (sent_count mode_of sender ≤ length output.old) }
-    ensures { (number_of result.answer ≡ 0)
-        × (result.count ≡ sent_count mode_of sender)
-        × (result.sender ≡ sender_after mode_of sender packet.now)
+    ensures { IsOk result
+        × (sent_answer result ≡ pick replaced 15 0)
+        × (given_or 0 (λ s. s.count) result ≡ sent_count mode_of sender)
+        × (given_or sender (λ s. s.sender) result ≡ sender_after mode_of sender packet.now)
         × (output.new ≡ sent_symbols mode_of sender packet.now ++ drop (sent_count mode_of sender) output.old) }
 {
     let place = sender.place;
-    let interleaver = sender.interleaver;
-    let coder = sender.coder;
     let mut randomized = [0u8; Sender::PACKET_LENGTH];
-    randomizer::randomize(place, packet, &mut randomized);
+    randomizer::randomize(place, packet, &mut randomized)?;
     let mut coded = [0u8; Sender::BLOCK_LENGTH];
-    reed_solomon::encode(&randomized, &mut coded);
+    reed_solomon::encode(&randomized, &mut coded)?;
     let mut block = [0u8; Sender::BLOCK_LENGTH];
-    let interleaved = interleaver.interleave(&coded, &mut block);
-    let interleaver = interleaved.interleaver;
-    let encoded = coder.encode(&block, output);
-    let answer = encoded.answer;
-    let coder = encoded.coder;
-    let count = encoded.count;
-    Sent {
-        answer,
-        count,
+    let interleaver = sender.interleaver.interleave(&coded, &mut block)?;
+    let encoded = sender.coder.encode(&block, output)?;
+    Ok(Sent {
+        count: encoded.count,
+        replaced,
         sender: Sender {
             place: (place + 1) % Sender::GROUP_LENGTH,
             interleaver,
-            coder,
+            coder: encoded.coder,
         },
-    }
+    })
 }

@@ -3,7 +3,7 @@
 use mathlib.Core.Path.{◌≡◌, refl, ap, sym, ◌∙◌}
 use mathlib.Core.Bool.{true, false}
 use mathlib.Core.List.{List, [], ◌∷◌}
-use Prim.Native.Nat.{ℕ, ◌+◌, ◌-◌, ◌%◌, ◌≤◌, ◌<◌}
+use Prim.Native.Nat.{ℕ, ◌+◌, ◌-◌, ◌*◌, ◌/◌, ◌%◌, ◌≤◌, ◌<◌}
 use native.Mathlib.Nat.{add-zero}
 use native.Mathlib.Omega.{arith}
 use borrow.Author.Tests.{eq-eqb, ne_eqb}
@@ -12,6 +12,14 @@ use lib.Seq.{drop-drop, get_or-take, get_or-drop, length-take-le}
 use Rattle.common.specs.Lists.{chunks_of}
 use Rattle.common.proofs.Chunks.{chunks_few, chunks_more}
 use Rattle.sender_stream.specs.Run.{synced}
+
+-- a packet begins at 188 k
+pub begins : (n k : ℕ) → k < n / 188 → 188 * k < n
+begins n k h = omega arith
+
+-- the last one ends with the bytes
+pub ends : (n k : ℕ) → n % 188 ≡ 0 → n / 188 ≤ k → n ≤ 188 * k
+ends n k e h = omega arith
 
 -- a packet begins at at, or the bytes end there
 pub record Scanning (bytes : List ℕ) (at : ℕ) : Type 0 where

@@ -1,7 +1,7 @@
 -- A loop that sends the packets of the bytes held and a piece: what is in the output and among the answers, and what is left to send.
 -- Assumes nothing.
 use mathlib.Core.Path.{◌≡◌, refl, ap, ap₂, sym, subst, subst₂, ◌∙◌}
-use mathlib.Core.Bool.{true}
+use mathlib.Core.Bool.{Bool, true, false}
 use mathlib.Core.Logic.{inr}
 use mathlib.Core.List.{List, [], ◌∷◌, ◌++◌, append_assoc, append-nil, flatten, map}
 use Prim.Native.Nat.{ℕ, suc, ◌+◌, ◌-◌, ◌/◌, ◌≤◌, ◌<◌}
@@ -10,11 +10,12 @@ use native.Mathlib.Numerals.{add-one}
 use borrow.Rule.Slice.PartMut.{put_mid, mid_of}
 use lib.ListN.{length, get_or, take, drop, set, length-append, length-drop, drop_of_length-le}
 use lib.Seq.{take_all, take_at, drop_at, drop-drop, drop-cons, set_at, take-append-add, drop-append-add, length-take-le}
+use Rattle.common.specs.Choice.{pick}
 use Rattle.common.specs.Lists.{padded, chunks_of, rest_of}
 use Rattle.common.proofs.Chunks.{chunks_few, chunks_more, rest_few, rest_more}
 use Rattle.puncturing.specs.Mode.{mode_of}
 use Rattle.inner_code.proofs.Coder as range
-use Rattle.sender.specs.Input.{is_input, packet_for, packets_for, sent_number}
+use Rattle.sender.specs.Input.{is_input, is_synced, packet_for, packets_for, sent_number}
 use Rattle.sender.specs.Send.{sender_in_range, is_sent, sent_symbols, sent_count, sender_after, Sends}
 use Rattle.sender.specs.Calls.{calls_symbols, calls_sender}
 use Rattle.sender.specs.declared.Sender.{Sender}
@@ -239,6 +240,14 @@ module _ {w : SenderStream} {piece output₀ answers₀ output answers : List �
 
       sent_count_lem : n ≡ sent_count mode_of s
       sent_count_lem = kept.counted ∙ answered_call.count
+
+      -- the call was not refused: its number is 0 or 15
+      pub progress_sent : 0 < number → number < 15 → ⊥
+      progress_sent h l = by (is_synced input) (kept.answered ∙ answered_call.number)
+        where
+          by : (b : Bool) → number ≡ pick b 0 15 → ⊥
+          by true e = omega arith
+          by false e = omega arith
 
       pub progress_total : count + n ≤ length output₀
       progress_total = omega (arith, sent_count_lem, output_enough, output_length)

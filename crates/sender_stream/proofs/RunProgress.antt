@@ -1,7 +1,7 @@
 -- A loop that sends the packets of a buffer: what is in the output, and what is left to send.
 -- Assumes nothing.
 use mathlib.Core.Path.{◌≡◌, refl, ap, ap₂, sym, subst, subst₂, ◌∙◌}
-use mathlib.Core.Bool.{true}
+use mathlib.Core.Bool.{Bool, true, false}
 use mathlib.Core.Logic.{inr}
 use mathlib.Core.List.{List, [], ◌++◌, append_assoc, append-nil, flatten}
 use Prim.Native.Nat.{ℕ, ◌+◌, ◌-◌, ◌%◌, ◌≤◌, ◌<◌}
@@ -9,11 +9,12 @@ use native.Mathlib.Omega.{arith}
 use borrow.Rule.Slice.PartMut.{put_mid, mid_of}
 use lib.ListN.{length, take, drop, length-append, length-drop, drop_of_length-le}
 use lib.Seq.{take_all, take_at, drop_at, drop-drop}
+use Rattle.common.specs.Choice.{pick}
 use Rattle.common.specs.Lists.{chunks_of}
 use Rattle.puncturing.specs.Mode.{mode_of}
 use Rattle.puncturing.proofs.Places.{sent_known}
 use Rattle.puncturing.proofs.WellFormed.{well_formed_lem}
-use Rattle.sender.specs.Input.{is_input, packet_for, packets_for}
+use Rattle.sender.specs.Input.{is_input, is_synced, packet_for, packets_for}
 use Rattle.sender.specs.Send.{fresh_sender, sent_symbols, sent_count, sender_after, Sends}
 use Rattle.sender.specs.Calls.{calls_symbols}
 use Rattle.sender.specs.declared.Sender.{Sender}
@@ -117,6 +118,14 @@ module _ {rate : ℕ} {bytes output₀ output : List ℕ} {s : Sender} {at count
 
       pub progress_count : n ≡ sent_count mode_of s
       progress_count = kept.counted ∙ answered.count
+
+      -- the call was not refused: its number is 0 or 15
+      pub progress_sent : 0 < number → number < 15 → ⊥
+      progress_sent h l = by (is_synced input) (kept.answered ∙ answered.number)
+        where
+          by : (b : Bool) → number ≡ pick b 0 15 → ⊥
+          by true e = omega arith
+          by false e = omega arith
 
       pub progress_total : count + n ≤ length output₀
       progress_total = omega (arith, progress_count, fits_next)

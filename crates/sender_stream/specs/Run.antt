@@ -1,13 +1,16 @@
 -- What a fresh sender gives for a whole list of packets that lie one after the other in a buffer.
 -- Clauses: document 01, "Answer numbers"; document 02, P2 and P12.
 -- Assumes nothing.
-use Rattle.std.specs.Prelude.{◌≡◌, Bool, true, false, List, [], ◌∷◌, ◌++◌, ℕ, ◌%◌, ◌≤◌, ltb, eqb, length, drop}
+use Rattle.std.specs.Prelude.{◌≡◌, Bool, true, false, List, [], ◌∷◌, ◌++◌, ℕ, ◌%◌, ◌≤◌, ltb, eqb, length, drop, Result, Ok, Err}
+use Rattle.answer.specs.Number.{number_of}
+use Rattle.answer.specs.declared.Refusal.{Refusal}
 use Rattle.common.specs.Choice.{pick}
 use Rattle.common.specs.Refusal.{unless, when, first_due}
 use Rattle.common.specs.Lists.{chunks_of}
 use Rattle.puncturing.specs.Mode.{mode_of}
 use Rattle.sender.specs.Standard.{on_air}
 use Rattle.sender.specs.Input.{is_synced, packets_for}
+use Rattle.sender_stream.specs.declared.run.SentRun.{SentRun}
 
 -- each packet of a list begins with the sync byte
 unfoldable pub synced : List (List ℕ) → Bool
@@ -40,6 +43,11 @@ run_count rate bytes output = pick (eqb (run_refusal rate bytes output) 0) (leng
 abbrev pub run_output : ℕ → List ℕ → List ℕ → List ℕ
 run_output rate bytes output =
     pick (eqb (run_refusal rate bytes output) 0) (run_symbols rate bytes ++ drop (length (run_symbols rate bytes)) output) output
+
+-- the number of what a run answers: 15 where a null packet was sent
+abbrev pub run_answer : Result SentRun Refusal → ℕ
+run_answer (Ok run) = pick run.replaced 15 0
+run_answer (Err refusal) = number_of refusal
 
 -- what a run promises
 pub record SendsRun (rate : ℕ) (bytes output : List ℕ) (number count : ℕ) (left : List ℕ) : Type 0 where

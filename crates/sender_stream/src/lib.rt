@@ -1,20 +1,20 @@
 // Sending in progress: transport packets from pieces of any length. The bytes of a packet that is not whole yet are held until the rest of it comes.
 #![tactic(auto)]
 
-ghost use Rattle.std.specs.Prelude.{◌≡◌, ◌++◌, ◌+◌, ◌/◌, ◌<◌, ◌≤◌, length, take};
-ghost use Rattle.answer.specs.Number.{number_of};
-ghost use Rattle.common.specs.Lists.{padded};
+ghost use Rattle.std.specs.Prelude.{◌≡◌, ◌++◌, ◌+◌, ◌/◌, ◌<◌, length, take, IfOk, IfErr};
+ghost use Rattle.answer.specs.Number.{number_of, answered, given_or};
 ghost use Rattle.puncturing.specs.Mode.{mode_of};
 ghost use Rattle.inner_code.specs.Encode.{new_number};
-ghost use Rattle.sender.specs.Send.{Sends};
+ghost use Rattle.sender.specs.Send.{Sends, sent_answer};
 ghost use Rattle.sender_stream.specs.Feed.{fresh_sender_stream, sender_stream_in_range, OutputsFit, FeedsAll, FeedsSender};
 
-use answer::Answer;
-use sender::Sender;
+use answer::Refusal;
+use sender::{Sender, Sent};
 
 pub mod run;
 
-// The sender, and the bytes of a packet that is not whole yet: so many of pending, which has zeros after them.
+// The sender, and the bytes of a packet that is not whole yet: so many of pending, which has zeros after them, since no memory is
+// taken for them.
 #[derive(Clone, Copy)]
 pub struct SenderStream {
     pub sender: Sender,
@@ -22,37 +22,32 @@ pub struct SenderStream {
     pub held: usize,
 }
 
-// The answer stands beside the state, as a fresh sender's does.
-#[derive(Clone, Copy)]
-pub struct Begun {
-    pub answer: Answer,
-    pub sending: SenderStream,
-}
-
-// An answer, how many symbols were written, how many packets were sent, each with its answer, and the sending after them.
+// How many symbols were written, how many packets were sent, each with its answer, and the sending after them.
 #[derive(Clone, Copy)]
 pub struct SenderFed {
-    pub answer: Answer,
     pub count: usize,
     pub packets: usize,
     pub sending: SenderStream,
 }
 
 impl SenderStream {
-    pub fn new(rate: u8) -> Begun
-        ensures { (number_of result.answer ≡ new_number rate) × (result.sending ≡ fresh_sender_stream rate) }
+    // A fresh sending, in a mode that is sent.
+    pub fn new(rate: u8) -> Result<SenderStream, Refusal>
+        ensures number { answered result ≡ new_number rate }
+        ensures fresh { IfOk result (λ w. w ≡ fresh_sender_stream rate) }
     {
-        let created = Sender::new(rate);
-        let answer = created.answer;
-        let sender = created.sender;
-        let pending = [0u8; Sender::PACKET_LENGTH];
-        Begun {
-            answer,
-            sending: SenderStream {
-                sender,
-                pending,
-                held: 0,
-            },
+        Sender::new(rate)?;
+        Ok(SenderStream::fresh(rate))
+    }
+
+    // A fresh sending at a rate, sent or not. Where it is not, every call refuses the sending, as it does a sender.
+    pub fn fresh(rate: u8) -> SenderStream
+        ensures { result ≡ fresh_sender_stream rate }
+    {
+        SenderStream {
+            sender: Sender::fresh(rate),
+            pending: [0u8; Sender::PACKET_LENGTH],
+            held: 0,
         }
     }
 
@@ -60,56 +55,37 @@ impl SenderStream {
     pub fn in_range(self) -> bool
         ensures { result ≡ sender_stream_in_range self }
     {
-        let sender = self.sender;
-        if !sender.in_range() {
+        if !self.sender.in_range() {
             return false;
         }
-        let held = self.held;
-        held < Sender::PACKET_LENGTH
+        self.held < Sender::PACKET_LENGTH
     }
 
     // Sends the packets that are whole with a piece: writes their symbols, and a byte with the number of its answer for each, 0 or 15.
-    pub fn feed(self, piece: &[u8], output: &mut [u8], answers: &mut [u8]) -> SenderFed
+    pub fn feed(
+        self,
+        piece: &[u8],
+        output: &mut [u8],
+        answers: &mut [u8],
+    ) -> Result<SenderFed, Refusal>
         ensures { FeedsSender self piece.now output.old answers.old
-            (number_of result.answer) result.count result.packets result.sending output.new answers.new }
+            (answered result) (given_or 0 (λ f. f.count) result) (given_or 0 (λ f. f.packets) result) (given_or self (λ f. f.sending) result)
+            output.new answers.new }
     {
         if !self.in_range() {
-            return SenderFed {
-                answer: Answer::StateRange,
-                count: 0,
-                packets: 0,
-                sending: self,
-            };
+            return Err(Refusal::StateRange);
         }
-        let sender = self.sender;
-        let coder = sender.coder;
+        let coder = self.sender.coder;
         let rate = coder.rate;
         if !puncturing::is_sent(rate) {
-            return SenderFed {
-                answer: Answer::UnknownRate,
-                count: 0,
-                packets: 0,
-                sending: self,
-            };
+            return Err(Refusal::UnknownRate);
         }
-        let place = coder.place;
-        let held = self.held;
-        let packets = whole_count(held, piece.len());
-        if crate::run::is_short(rate, place, packets, output.len()) {
-            return SenderFed {
-                answer: Answer::OutputLength,
-                count: 0,
-                packets: 0,
-                sending: self,
-            };
+        let packets = whole_count(self.held, piece.len());
+        if crate::run::is_short(rate, coder.place, packets, output.len()) {
+            return Err(Refusal::OutputLength);
         }
         if answers.len() < packets {
-            return SenderFed {
-                answer: Answer::OutputLength,
-                count: 0,
-                packets: 0,
-                sending: self,
-            };
+            return Err(Refusal::OutputLength);
         }
         send_whole(self, piece, output, answers)
     }
@@ -123,21 +99,6 @@ fn whole_count(held: usize, came: usize) -> usize
     came / Sender::PACKET_LENGTH + (held + came % Sender::PACKET_LENGTH) / Sender::PACKET_LENGTH
 }
 
-// The first so many bytes of an array, then more bytes, then zeros.
-fn joined(
-    pending: [u8; Sender::PACKET_LENGTH],
-    held: usize,
-    more: &[u8],
-) -> [u8; Sender::PACKET_LENGTH]
-    requires { held + length more.now ≤ 188 }
-    ensures { result ≡ padded 188 (take held pending ++ more.now) }
-{
-    let mut bytes = [0u8; Sender::PACKET_LENGTH];
-    common::put(&pending[..held], 0, &mut bytes);
-    common::put(more, held, &mut bytes);
-    bytes
-}
-
 // Sends the packet that the bytes held and more make.
 fn send_joined(
     sender: Sender,
@@ -145,11 +106,13 @@ fn send_joined(
     held: usize,
     more: &[u8],
     output: &mut [u8],
-) -> sender::Sent
+) -> Result<Sent, Refusal>
     requires { held + length more.now ≡ 188 }
-    ensures { Sends mode_of sender (take held pending ++ more.now) output.old (number_of result.answer) result.count result.sender output.new }
+    ensures sends { Sends mode_of sender (take held pending ++ more.now) output.old
+        (sent_answer result) (given_or 0 (λ s. s.count) result) (given_or sender (λ s. s.sender) result) output.new }
+    ensures refused { IfErr result (λ refusal. number_of refusal < 15) }
 {
-    let packet = joined(pending, held, more);
+    let packet: [u8; Sender::PACKET_LENGTH] = common::joined(&pending[..held], more);
     sender.send(&packet, output)
 }
 
@@ -159,10 +122,11 @@ fn send_whole(
     piece: &[u8],
     output: &mut [u8],
     answers: &mut [u8],
-) -> SenderFed
+) -> Result<SenderFed, Refusal>
     requires { OutputsFit sending piece.now output.old answers.old }
     ensures { FeedsAll sending piece.now output.old answers.old
-        (number_of result.answer) result.count result.packets result.sending output.new answers.new }
+        (answered result) (given_or 0 (λ f. f.count) result) (given_or 0 (λ f. f.packets) result) (given_or sending (λ f. f.sending) result)
+        output.new answers.new }
 {
     let pending = sending.pending;
     let mut sender = sending.sender;
@@ -170,27 +134,24 @@ fn send_whole(
     let mut at: usize = 0;
     let mut count: usize = 0;
     let mut packets: usize = 0;
+    // A `while`: the first packet takes what is missing of it, the others 188 bytes.
     while piece.len() - at >= Sender::PACKET_LENGTH - held {
         let end = at + (Sender::PACKET_LENGTH - held);
-        let sent = send_joined(sender, pending, held, &piece[at..end], &mut output[count..]);
-        let answer = sent.answer;
-        answers[packets] = answer.number();
+        let sent = send_joined(sender, pending, held, &piece[at..end], &mut output[count..])?;
+        answers[packets] = sent.number();
         sender = sent.sender;
         count += sent.count;
         packets += 1;
         held = 0;
         at = end;
     }
-    let pending = joined(pending, held, &piece[at..]);
-    let held = held + (piece.len() - at);
-    SenderFed {
-        answer: Answer::Done,
+    Ok(SenderFed {
         count,
         packets,
         sending: SenderStream {
             sender,
-            pending,
-            held,
+            pending: common::joined(&pending[..held], &piece[at..]),
+            held: held + (piece.len() - at),
         },
-    }
+    })
 }

@@ -1,12 +1,13 @@
 // A whole list of packets, sent with a fresh sender.
-ghost use Rattle.std.specs.Prelude.{◌≡◌, ◌++◌, ◌*◌, ◌%◌, ◌<◌, ltb, length, drop};
+ghost use Rattle.std.specs.Prelude.{◌≡◌, ◌++◌, ◌*◌, ◌%◌, ◌<◌, ltb, length, drop, IsOk};
+ghost use Rattle.common.specs.Choice.{pick};
 ghost use Rattle.common.specs.Lists.{chunks_of};
-ghost use Rattle.answer.specs.Number.{number_of};
+ghost use Rattle.answer.specs.Number.{given_or};
 ghost use Rattle.puncturing.specs.Mode.{block_bits, mode_count};
 ghost use Rattle.puncturing.specs.Step.{pattern_length, symbols_in};
-ghost use Rattle.sender_stream.specs.Run.{synced, run_symbols, Sendable, SendsRun};
+ghost use Rattle.sender_stream.specs.Run.{synced, run_symbols, Sendable, SendsRun, run_answer};
 
-use answer::Answer;
+use answer::Refusal;
 use inner_code::InnerCoder;
 use puncturing::is_sent;
 use sender::Sender;
@@ -14,11 +15,20 @@ use sender::Sender;
 // The bits of a coded block. At 16QAM a third of them is coded, and the place in the pattern is 0 all the same.
 const BLOCK_BITS: u16 = 1632;
 
-// An answer, and how many symbols were written.
+// How many symbols were written, and whether a null packet was sent in place of a packet.
 #[derive(Clone, Copy)]
 pub struct SentRun {
-    pub answer: Answer,
     pub count: usize,
+    pub replaced: bool,
+}
+
+impl SentRun {
+    // The number of the answer: 15 where a null packet was sent, else 0.
+    pub fn number(self) -> u8
+        ensures { result ≡ pick self.replaced 15 0 }
+    {
+        if self.replaced { 15 } else { 0 }
+    }
 }
 
 // Whether each packet begins with the sync byte.
@@ -26,12 +36,10 @@ fn is_synced(packets: &[u8]) -> bool
     requires { length packets.now % 188 ≡ 0 }
     ensures { result ≡ synced (chunks_of 188 packets.now) }
 {
-    let mut start: usize = 0;
-    while start < packets.len() {
-        if packets[start] != 0x47 {
+    for k in 0..packets.len() / Sender::PACKET_LENGTH {
+        if packets[Sender::PACKET_LENGTH * k] != 0x47 {
             return false;
         }
-        start += Sender::PACKET_LENGTH;
     }
     true
 }
@@ -46,8 +54,7 @@ pub fn is_short(rate: u8, start: u8, packets: usize, space: usize) -> bool
     let length = lengths[rate as usize] as u16;
     let mut place = start;
     let mut left = space;
-    let mut k: usize = 0;
-    while k < packets {
+    for _ in 0..packets {
         let coder = InnerCoder {
             rate,
             memory: 0,
@@ -60,63 +67,44 @@ pub fn is_short(rate: u8, start: u8, packets: usize, space: usize) -> bool
         }
         left -= needed;
         place = ((place as u16 + BLOCK_BITS) % length) as u8;
-        k += 1;
     }
     false
 }
 
 // Sends the packets one after the other. Gives the number of symbols.
-fn send_packets(rate: u8, packets: &[u8], output: &mut [u8]) -> usize
+fn send_packets(rate: u8, packets: &[u8], output: &mut [u8]) -> Result<usize, Refusal>
     requires { Sendable rate packets.now output.old }
-    ensures { (result ≡ length (run_symbols rate packets.now))
+    ensures { IsOk result
+        × (given_or 0 (λ n. n) result ≡ length (run_symbols rate packets.now))
         × (output.new ≡ run_symbols rate packets.now ++ drop (length (run_symbols rate packets.now)) output.old) }
 {
-    let created = Sender::new(rate);
-    let mut sender = created.sender;
-    let mut at: usize = 0;
+    let mut sender = Sender::fresh(rate);
     let mut count: usize = 0;
-    while at < packets.len() {
+    for k in 0..packets.len() / Sender::PACKET_LENGTH {
+        let at = Sender::PACKET_LENGTH * k;
         let end = at + Sender::PACKET_LENGTH;
-        let sent = sender.send(&packets[at..end], &mut output[count..]);
+        let sent = sender.send(&packets[at..end], &mut output[count..])?;
         sender = sent.sender;
         count += sent.count;
-        at = end;
     }
-    count
+    Ok(count)
 }
 
 // Sends a whole list of packets with a fresh sender: writes the symbols that EN 300 421 gives for them, with a null packet
 // in place of each that does not begin with the sync byte. Nothing is written unless all of them can be sent.
-pub fn send_run(rate: u8, packets: &[u8], output: &mut [u8]) -> SentRun
-    ensures { SendsRun rate packets.now output.old (number_of result.answer) result.count output.new }
+pub fn send_run(rate: u8, packets: &[u8], output: &mut [u8]) -> Result<SentRun, Refusal>
+    ensures { SendsRun rate packets.now output.old (run_answer result) (given_or 0 (λ r. r.count) result) output.new }
 {
     if !is_sent(rate) {
-        return SentRun {
-            answer: Answer::UnknownRate,
-            count: 0,
-        };
+        return Err(Refusal::UnknownRate);
     }
     if packets.len() % Sender::PACKET_LENGTH != 0 {
-        return SentRun {
-            answer: Answer::PacketLength,
-            count: 0,
-        };
+        return Err(Refusal::PacketLength);
     }
     if is_short(rate, 0, packets.len() / Sender::PACKET_LENGTH, output.len()) {
-        return SentRun {
-            answer: Answer::OutputLength,
-            count: 0,
-        };
+        return Err(Refusal::OutputLength);
     }
-    let count = send_packets(rate, packets, output);
-    if !is_synced(packets) {
-        return SentRun {
-            answer: Answer::NullPacket,
-            count,
-        };
-    }
-    SentRun {
-        answer: Answer::Done,
-        count,
-    }
+    let count = send_packets(rate, packets, output)?;
+    let replaced = !is_synced(packets);
+    Ok(SentRun { count, replaced })
 }

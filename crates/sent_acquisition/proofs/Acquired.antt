@@ -14,7 +14,7 @@ use Rattle.node_search.specs.declared.Search.{Search}
 use Rattle.node_search.specs.declared.Search.TheVariants.{Found}
 use Rattle.node_search.proofs.Found.{found_known}
 use Rattle.symbol_turns.specs.Turn.{undoing, turned_pair}
-use Rattle.block_sync.specs.History.{GivenBlock}
+use Rattle.block_sync.specs.declared.GivenBlock.{GivenBlock}
 use Rattle.acquisition.specs.Reading.{Begins, ReadsSymbols}
 use Rattle.acquisition.specs.Step as steps
 use Rattle.acquisition.specs.Step.{pending_of, searching_on, reading_on, fresh_acquisition, AcquisitionReady, AfterSearch, window_of, SearchesOn, after_reading, StepsAcquisition, ends_reading, mirrored_next, lost_reading}
@@ -69,7 +69,7 @@ grown (more mirrored k unread b r h) new = more mirrored k (unread ++ new) (grow
 -- the symbols that the reading took are those of the call, and the others stay unread
 extended : {asked : ℕ} {symbols : List ℕ} {these : List GivenBlock} {mirrored : Bool} {k : Reading} {unread : List ℕ} → ReadingOfThese asked symbols these mirrored k unread
     → (piece rest : List ℕ) (t : _) → ReadsSymbols k piece t → take t.taken piece ++ rest ≡ unread
-    → ReadingOfThese asked symbols (these ++ block_in t.event t.block) mirrored t.reading rest
+    → ReadingOfThese asked symbols (these ++ block_in t.event) mirrored t.reading rest
 extended r piece rest t f e = record {
   before = r.before;
   received = r.received;
@@ -112,7 +112,7 @@ data After (asked : ℕ) (mirrored : Bool) (k : Reading) (pending : List ℕ) (c
 after_is : (s : Acquisition) (piece : List ℕ) (t : _) → ReadsSymbols s.reading piece t → (pending : List ℕ) (came : ℕ) (e : Event)
     → After s.rate s.mirrored t.reading pending came (after_reading s t pending came e)
 after_is s piece t f pending came Waits = goes_on
-after_is s piece t f pending came Block = goes_on
+after_is s piece t f pending came (Block b) = goes_on
 after_is s piece t f pending came Lost = by (ends_reading s.reading.sync.lock.locked s.reading.used)
   where
     by : (ends : Bool) → After s.rate s.mirrored t.reading pending came (lost_reading s t.reading pending came ends)
@@ -169,7 +169,7 @@ module _ {asked : ℕ} {symbols : List ℕ} where
 
 module _ (asked : ℕ) (symbols : List ℕ) (given : List GivenBlock) (piece : List ℕ) (r : Step) where
   abbrev Left : Step → Type 0
-  Left x = AcquisitionCame asked (symbols ++ take x.taken piece) (given ++ block_in x.event x.block) x.acquisition
+  Left x = AcquisitionCame asked (symbols ++ take x.taken piece) (given ++ block_in x.event) x.acquisition
 
   -- while it searches
   hunted : {last : ℕ} (mirrored : Bool) (passed pending : List ℕ) → passed ++ pending ≡ symbols → BlocksOfReadings asked symbols given last → last ≤ length passed → length pending < 1632
@@ -209,7 +209,7 @@ module _ (asked : ℕ) (symbols : List ℕ) (given : List GivenBlock) (piece : L
         let t = d.read in
         let rest : List ℕ = drop t.taken (pending_of s) in
         subst Left (sym d.result)
-        (subst (λ (g : List GivenBlock). AcquisitionCame asked (symbols ++ []) g (after_reading s t rest (length symbols) t.event)) (joined (block_in t.event t.block))
+        (subst (λ (g : List GivenBlock). AcquisitionCame asked (symbols ++ []) g (after_reading s t rest (length symbols) t.event)) (joined (block_in t.event))
         (settled (after_is s (pending_of s) t d.reads rest (length symbols) t.event) (grown b [])
         (extended (reading_grown c []) (pending_of s) rest t d.reads (take-append-drop t.taken (pending_of s) ∙ (front pending ∙ sym (append-nil pending)))) h
         (omega (arith, length-append symbols []))))
@@ -228,7 +228,7 @@ module _ (asked : ℕ) (symbols : List ℕ) (given : List GivenBlock) (piece : L
         let part : take t.taken turns ++ [] ≡ pending ++ new =
         append-nil (take t.taken turns) ∙ (take-take t.taken 1632 piece (omega (arith, most, length-take 1632 piece)) ∙ ap (λ (l : List ℕ). l ++ new) (sym nothing)) in
         subst Left (sym d.result)
-        (subst (λ (g : List GivenBlock). AcquisitionCame asked (symbols ++ new) g (after_reading s t [] (length symbols + t.taken) t.event)) (joined (block_in t.event t.block))
+        (subst (λ (g : List GivenBlock). AcquisitionCame asked (symbols ++ new) g (after_reading s t [] (length symbols + t.taken) t.event)) (joined (block_in t.event))
         (settled (after_is s turns t f [] (length symbols + t.taken) t.event) (grown b new) (extended (reading_grown c new) turns [] t f part) h
         (omega (arith, length-append symbols new, length-take-le t.taken piece few))))
 
@@ -236,7 +236,7 @@ empty : (l : List ℕ) → length l ≡ 0 → l ≡ []
 empty l e = sym (take-length l) ∙ ap (λ (n : ℕ). take n l) e
 
 stepped : {asked : ℕ} {symbols : List ℕ} {given : List GivenBlock} {s : Acquisition} (piece : List ℕ) (r : Step) → AcquisitionCame asked symbols given s → AcquisitionReady s → StepsAcquisition s piece r
-    → AcquisitionCame asked (symbols ++ take r.taken piece) (given ++ block_in r.event r.block) r.acquisition
+    → AcquisitionCame asked (symbols ++ take r.taken piece) (given ++ block_in r.event) r.acquisition
 stepped {asked} {symbols} {given} piece r (searching mirrored passed pending e b l) ready (steps.hunts p h) = hunted asked symbols given piece r mirrored passed pending e b l ready.phase_ready.window_few h
 stepped {asked} {symbols} {given} piece r (searching mirrored passed pending e b l) ready (steps.drains p h d) = absurd (true≢false (sym (ap is_reads p)))
 stepped {asked} {symbols} {given} piece r (searching mirrored passed pending e b l) ready (steps.reads p h d) = absurd (true≢false (sym (ap is_reads p)))

@@ -2,7 +2,7 @@
 -- Assumes nothing.
 use mathlib.Core.Path.{◌≡◌, refl, sym, ◌∙◌, ap, subst}
 use mathlib.Core.Bool.{Bool, true, false}
-use mathlib.Core.List.{List, [], ◌∷◌, ◌++◌, map, append-nil, append_assoc, map-append}
+use mathlib.Core.List.{List, [], ◌++◌, map, append-nil, append_assoc, map-append}
 use Prim.Native.Nat.{ℕ, ◌+◌, ◌*◌, ◌<◌}
 use native.Mathlib.Nat.{add-zero}
 use native.Mathlib.Omega.{arith}
@@ -20,15 +20,15 @@ use Rattle.symbol_turns.specs.Turn.{undoing, turned_pair}
 use Rattle.free_start.specs.Lead.{lead_symbols}
 use Rattle.node_search.specs.declared.Hypothesis.{Hypothesis}
 use Rattle.node_search.proofs.Truth.{map-take}
-use Rattle.block_sync.specs.History.{GivenBlock, step_given, SyncFeedings, fresh, feeding}
+use Rattle.block_sync.specs.History.{step_given, SyncFeedings, fresh, feeding}
+use Rattle.block_sync.specs.declared.GivenBlock.{GivenBlock}
 use Rattle.block_sync.specs.declared.BlockSync.{BlockSync}
 use Rattle.block_sync.specs.declared.SyncStep.{SyncStep}
-use Rattle.acquisition.specs.Reading.{turn_read, used_by, TakesBits, block_found, SettlesBits}
+use Rattle.std.specs.Prelude.{Option, Some, None, is_some, option_map, option_to_list}
+use Rattle.acquisition.specs.Reading.{symbol_at, turn_read, turn_told, used_by, TakesBits, block_found, event_of, SettlesBits}
 use Rattle.acquisition.specs.End.{ClosesReading}
 use Rattle.acquisition.specs.declared.Reading.{Reading}
 use Rattle.acquisition.specs.declared.FoundBlock.{FoundBlock}
-use Rattle.acquisition.specs.declared.Event.{Event}
-use Rattle.acquisition.specs.declared.Event.TheVariants.{Waits, Block, Lost}
 use Rattle.sent_acquisition.specs.Readings.{block_in, ReadingFeedings, begun, reading, ReadingCame, ReadingClosed}
 
 -- ---- the aligner's part of a call
@@ -44,7 +44,7 @@ takes_fed {bits} {given} {skipped} f piece d t =
     append_assoc bits (take a.taken piece) (take b.taken (drop a.taken piece))
     ∙ ap (λ (l : List ℕ). bits ++ l) (sym (take-add a.taken b.taken piece) ∙ (ap (λ (n : ℕ). take n piece) t.whole ∙ take-length piece)) in
     let blocks : given ++ step_given a ++ step_given b ≡ given ++ step_given a =
-    ap (λ (x : Bool). given ++ step_given a ++ pick x (record { begins = b.begins; block = b.block } ∷ []) []) t.none_given ∙ append-nil (given ++ step_given a) in
+    ap (λ (x : Option GivenBlock). given ++ step_given a ++ option_to_list x) t.none_given ∙ append-nil (given ++ step_given a) in
     let skips : skipped + a.skipped + b.skipped ≡ skipped + a.skipped = ap (λ (n : ℕ). skipped + a.skipped + n) t.none_skipped ∙ add-zero (skipped + a.skipped) in
     subst (λ (x : SyncStep). SyncFeedings (bits ++ piece) (given ++ step_given x) (skipped + x.skipped) x.sync) (sym t.result)
     (subst (λ (n : ℕ). SyncFeedings (bits ++ piece) (given ++ step_given a) n b.sync) skips
@@ -52,22 +52,32 @@ takes_fed {bits} {given} {skipped} f piece d t =
     (subst (λ (l : List ℕ). SyncFeedings l (given ++ step_given a ++ step_given b) (skipped + a.skipped + b.skipped) b.sync) all two)))
 
 -- the block of a call is the aligner's
-block_is : (given lost : Bool) (b : FoundBlock)
-    → ◌≡◌ {A = List GivenBlock} (pick given (record { begins = b.begins; block = b.bytes } ∷ []) []) (block_in (pick given Block (pick lost Lost Waits)) b)
-block_is true lost b = refl
-block_is false true b = refl
-block_is false false b = refl
+block_is : (rate turn first used : ℕ) (d : SyncStep) → step_given d ≡ block_in (event_of (block_found rate turn first used d) d.skipped)
+block_is rate turn first used d = by d.block (ltb 0 d.skipped) refl
+  where
+    as_found : GivenBlock → FoundBlock
+    as_found b = record {
+      begins = b.begins;
+      rate = rate;
+      turn = turn_told turn d.sync.lock.inverted;
+      start = symbol_at rate first (used + d.skipped);
+      end = symbol_at rate first (used + d.skipped + 1632);
+      bytes = b.bytes;
+    }
+
+    by : (o : Option GivenBlock) (lost : Bool) → ltb 0 d.skipped ≡ lost → option_to_list o ≡ block_in (event_of (option_map as_found o) d.skipped)
+    by (Some g) lost e = refl
+    by None true e = rw e refl
+    by None false e = rw e refl
 
 -- its bits
-block_size : (given : Bool) (g : GivenBlock) → pick given 1632 0 ≡ 1632 * length (pick given (g ∷ []) [])
-block_size true g = refl
-block_size false g = refl
+block_size : (o : Option GivenBlock) → pick (is_some o) 1632 0 ≡ 1632 * length (option_to_list o)
+block_size (Some g) = refl
+block_size None = refl
 
-settled_block : (k : Reading) (runs : SymbolRuns) (taken : ℕ) (bits : List ℕ) (r : _) (s : SettlesBits k runs taken bits r) → step_given s.decided ≡ block_in r.event r.block
+settled_block : (k : Reading) (runs : SymbolRuns) (taken : ℕ) (bits : List ℕ) (r : _) (s : SettlesBits k runs taken bits r) → step_given s.decided ≡ block_in r.event
 settled_block k runs taken bits r s =
-    let d = s.decided in
-    let b = block_found k.runs.rate k.turn k.first k.used d in
-    block_is d.given (ltb 0 d.skipped) b ∙ (ap (λ (e : Event). block_in e b) (sym s.event_is) ∙ ap (block_in r.event) (sym s.block_is))
+    block_is k.runs.rate k.turn k.first k.used s.decided ∙ ap block_in (sym s.event_is)
 
 -- ---- the theorems
 
@@ -108,7 +118,7 @@ reading_came {h} {mirrored} {first} (reading {symbols} {given} {k} piece r befor
     c.rate_is (fed_decided c.ready f.feeds)) in
     let all : lead ++ map back symbols ++ map back (take r.taken piece) ≡ lead ++ map back (symbols ++ take r.taken piece) =
     append_assoc lead (map back symbols) (map back (take r.taken piece)) ∙ ap (λ (l : List ℕ). lead ++ l) (sym (map-append back symbols (take r.taken piece))) in
-    subst (λ (x : Reading). ReadingCame rate turn first (symbols ++ take r.taken piece) (given ++ block_in r.event r.block) x) (sym s.reading)
+    subst (λ (x : Reading). ReadingCame rate turn first (symbols ++ take r.taken piece) (given ++ block_in r.event) x) (sym s.reading)
     (subst (λ (g : List GivenBlock). ReadingCame rate turn first (symbols ++ take r.taken piece) (given ++ g) (record { turn = k.turn; runs = f.next; sync = d.sync; first = k.first; used = k.used + used_by d })) (settled_block k f.next f.taken more r s)
     (record {
       ready = f.ready;
@@ -126,13 +136,13 @@ reading_came {h} {mirrored} {first} (reading {symbols} {given} {k} piece r befor
             arith,
             c.used_is,
             length-append given (step_given d),
-            block_size d.given (record { begins = d.begins; block = d.block }),
+            block_size d.block,
           );
     }))
 
 -- what the end of the symbols adds
 pub reading_closed : {rate turn first : ℕ} {symbols : List ℕ} {given : List GivenBlock} {k : Reading} (c : ReadingCame rate turn first symbols given k) (r : _) → ClosesReading k r
-    → ReadingClosed c (block_in r.event r.block) r.reading.sync
+    → ReadingClosed c (block_in r.event) r.reading.sync
 reading_closed {given = given} {k} c r f =
     let bits : List ℕ = c.bits ++ take f.count f.exit in
     let s = f.settles in
@@ -144,7 +154,7 @@ reading_closed {given = given} {k} c r f =
       closes = f.closes;
       skipped = c.skipped + s.decided.skipped;
       aligned =
-          subst (SyncFeedings bits (given ++ block_in r.event r.block) (c.skipped + s.decided.skipped)) (sym (ap (λ (x : Reading). x.sync) s.reading))
+          subst (SyncFeedings bits (given ++ block_in r.event) (c.skipped + s.decided.skipped)) (sym (ap (λ (x : Reading). x.sync) s.reading))
           (subst (λ (g : List GivenBlock). SyncFeedings bits (given ++ g) (c.skipped + s.decided.skipped) s.decided.sync) (settled_block k f.opened 0 (take f.count f.exit) r s)
           (takes_fed c.aligned (take f.count f.exit) s.decided s.takes));
     }

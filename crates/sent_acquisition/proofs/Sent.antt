@@ -41,7 +41,7 @@ use Rattle.sent_blocks.proofs.Lengths.{interleaved_count, interleaved_whole}
 use Rattle.group_sync.specs.Stream.{before_group}
 use Rattle.block_sync.specs.Decision.{turned_bits}
 use Rattle.block_sync.specs.Grid.{Unsynced, Drained}
-use Rattle.block_sync.specs.History.{GivenBlock}
+use Rattle.block_sync.specs.declared.GivenBlock.{GivenBlock}
 use Rattle.block_sync.specs.declared.BlockSync.{BlockSync}
 use Rattle.block_sync.proofs.Turning.{turned_length}
 use Rattle.sent_sync.specs.Sent.{bits_from, GivesSentSoFar, GivesSentWhole}

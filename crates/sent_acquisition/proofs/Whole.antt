@@ -25,7 +25,7 @@ use Rattle.sent_blocks.specs.Blocks.{sent_bytes}
 use Rattle.group_sync.specs.Stream.{before_group}
 use Rattle.block_sync.specs.Decision.{turned_bits}
 use Rattle.block_sync.specs.Grid.{Unsynced, Drained}
-use Rattle.block_sync.specs.History.{GivenBlock}
+use Rattle.block_sync.specs.declared.GivenBlock.{GivenBlock}
 use Rattle.block_sync.specs.declared.BlockSync.{BlockSync}
 use Rattle.sent_sync.specs.Sent.{bits_from, GivesSentSoFar, GivesSentWhole}
 use Rattle.sent_lock.specs.Locks.{locks_of, LocksTaken}

@@ -6,7 +6,7 @@ use Rattle.node_search.specs.Hypotheses.{searched}
 use Rattle.node_search.specs.Search.{Searches}
 use Rattle.node_search.specs.declared.Hypothesis.{Hypothesis}
 use Rattle.node_search.specs.declared.Search.TheVariants.{Found}
-use Rattle.block_sync.specs.History.{GivenBlock}
+use Rattle.block_sync.specs.declared.GivenBlock.{GivenBlock}
 use Rattle.acquisition.specs.Reading.{ReadsSymbols}
 use Rattle.acquisition.specs.Step.{searching_on, reading_on, fresh_acquisition, ends_reading, AcquisitionReady, StepsAcquisition}
 use Rattle.acquisition.specs.declared.Event.TheVariants.{Lost}
@@ -20,7 +20,7 @@ use Rattle.sent_acquisition.specs.Readings.{block_in, ReadingFeedings}
 pub data AcquisitionSteps (asked : ℕ) : List ℕ → List GivenBlock → Acquisition → Type 0 where
   fresh : AcquisitionSteps asked [] [] (fresh_acquisition asked)
   step : {symbols : List ℕ} {given : List GivenBlock} {s : Acquisition} (piece : List ℕ) (r : Step) → AcquisitionSteps asked symbols given s → AcquisitionReady s → StepsAcquisition s piece r
-      → AcquisitionSteps asked (symbols ++ take r.taken piece) (given ++ block_in r.event r.block) r.acquisition
+      → AcquisitionSteps asked (symbols ++ take r.taken piece) (given ++ block_in r.event) r.acquisition
 
 -- A reading of some of the symbols that came: in 1,632 of them the search found a hypothesis, and from its offset on the reading took them one after the other.
 pub record ReadingOfThese (asked : ℕ) (symbols : List ℕ) (given : List GivenBlock) (mirrored : Bool) (k : Reading) (unread : List ℕ) : Type 0 where
@@ -37,7 +37,7 @@ pub record ReadingOfThese (asked : ℕ) (symbols : List ℕ) (given : List Given
 -- A reading whose last call decided that no block follows, and whether that ended it.
 pub data Unfollowed (h : Hypothesis) (mirrored : Bool) (first : ℕ) : List ℕ → List GivenBlock → Reading → Bool → Type 0 where
   unfollowed : {symbols : List ℕ} {given : List GivenBlock} {k : Reading} (piece : List ℕ) (r : _) → ReadingFeedings h mirrored first symbols given k → ReadsSymbols k piece r → r.event ≡ Lost
-      → Unfollowed h mirrored first (symbols ++ take r.taken piece) (given ++ block_in r.event r.block) r.reading (ends_reading k.sync.lock.locked k.used)
+      → Unfollowed h mirrored first (symbols ++ take r.taken piece) (given ++ block_in r.event) r.reading (ends_reading k.sync.lock.locked k.used)
 
 -- The blocks of such readings, one reading after the other, and how many symbols there are up to the last one that a reading took. Each window begins behind what
 -- the reading before it took, so no symbol is in two readings.

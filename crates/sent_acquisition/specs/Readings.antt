@@ -6,26 +6,26 @@ use Rattle.reader_stream.specs.Runs.{RunsReady, DecidedPairs, held_of, ClosesRun
 use Rattle.symbol_turns.specs.Turn.{undoing, turned_pair}
 use Rattle.free_start.specs.Lead.{lead_symbols}
 use Rattle.node_search.specs.declared.Hypothesis.{Hypothesis}
-use Rattle.block_sync.specs.History.{GivenBlock, SyncFeedings}
+use Rattle.block_sync.specs.History.{SyncFeedings}
+use Rattle.block_sync.specs.declared.GivenBlock.{GivenBlock}
 use Rattle.block_sync.specs.declared.BlockSync.{BlockSync}
 use Rattle.acquisition.specs.Reading.{Begins, ReadsSymbols}
 use Rattle.acquisition.specs.declared.Reading.{Reading}
-use Rattle.acquisition.specs.declared.FoundBlock.{FoundBlock}
 use Rattle.acquisition.specs.declared.Event.{Event}
 use Rattle.acquisition.specs.declared.Event.TheVariants.{Waits, Block, Lost}
 
 -- the block that was found, where the event is one
-abbrev pub block_in : Event → FoundBlock → List GivenBlock
-block_in Waits b = []
-block_in Block b = record { begins = b.begins; block = b.bytes } ∷ []
-block_in Lost b = []
+abbrev pub block_in : Event → List GivenBlock
+block_in Waits = []
+block_in (Block b) = record { begins = b.begins; bytes = b.bytes } ∷ []
+block_in Lost = []
 
 -- A history of calls from the beginning of a reading on, each with the reading that the one before it left: the symbols that were taken and the blocks that
 -- were found, one after the other.
 pub data ReadingFeedings (h : Hypothesis) (mirrored : Bool) (first : ℕ) : List ℕ → List GivenBlock → Reading → Type 0 where
   begun : {k : Reading} → Begins h mirrored first k → ReadingFeedings h mirrored first [] [] k
   reading : {symbols : List ℕ} {given : List GivenBlock} {k : Reading} (piece : List ℕ) (r : _) → ReadingFeedings h mirrored first symbols given k → ReadsSymbols k piece r
-      → ReadingFeedings h mirrored first (symbols ++ take r.taken piece) (given ++ block_in r.event r.block) r.reading
+      → ReadingFeedings h mirrored first (symbols ++ take r.taken piece) (given ++ block_in r.event) r.reading
 
 -- What symbols come to at a rate, where a turn is turned back: behind the lead's lost symbols the bits that overlapping runs decide of all of them. The aligner
 -- took these bits, in some pieces, and the blocks are those that it gave. All bits but those that it holds are in blocks, or were skipped.

@@ -13,7 +13,8 @@ use Rattle.group_sync.specs.Stream.{before_group}
 use Rattle.sent_blocks.specs.Blocks.{interleaved_blocks}
 use Rattle.sent_blocks.proofs.Lengths.{interleaved_count}
 use Rattle.block_sync.specs.Grid.{begun, followers, Drained, Unsynced}
-use Rattle.block_sync.specs.History.{GivenBlock, SyncFeedings}
+use Rattle.block_sync.specs.History.{SyncFeedings}
+use Rattle.block_sync.specs.declared.GivenBlock.{GivenBlock}
 use Rattle.block_sync.specs.declared.BlockSync.{BlockSync}
 use Rattle.sent_sync.specs.Sent.{bits_from}
 use Rattle.sent_sync.proofs.Sent.{sent_anywhere, sent_so_far, sent_whole}
@@ -36,7 +37,7 @@ one_lock b bs = ap₂ (λ (x : List (List ℕ)) (y : List (List (List ℕ))). (b
 
 begun_count : (bs : List (List ℕ)) → length (begun bs) ≡ length bs
 begun_count [] = refl
-begun_count (b ∷ bs) = ap suc (length-map bs (λ b. record { begins = false; block = b }))
+begun_count (b ∷ bs) = ap suc (length-map bs (λ b. record { begins = false; bytes = b }))
 
 -- the first n, where there may be fewer
 shorter : (n : ℕ) (bs : List (List ℕ)) → take n bs ≡ take (length (take n bs)) bs

@@ -1,6 +1,7 @@
 -- Bits that have not all come: what is decided of some bits is the front of what is decided of more, so what is known of blocks that came to their end tells
 -- what was given of them so far, and what is given of them where they end there.
 -- Assumes nothing.
+use Rattle.std.specs.Prelude.{Some, None, is_some, unwrap_or}
 use mathlib.Core.Path.{◌≡◌, refl, sym, ◌∙◌, ap, ap₂, subst}
 use mathlib.Core.Bool.{Bool, true, false}
 use mathlib.Core.List.{List, [], ◌∷◌, ◌++◌, append_assoc}
@@ -15,7 +16,8 @@ use Rattle.sync_search.specs.Sync.{sync_at, first, nowhere}
 use Rattle.block_sync.specs.Decision.{keeps, polarity_at, locked_as, unlocked, Decides, follows, begins, searches, used_bits, block_of}
 use Rattle.block_sync.specs.Grid.{SyncGrid, grid_blocks, followers, begun, Unsynced, Drained, AnywhereGiven}
 use Rattle.block_sync.specs.History as history
-use Rattle.block_sync.specs.History.{GivenBlock, SyncFeedings, Part, part_of, part_given, given_of, skipped_of, Aligned, few, turn}
+use Rattle.block_sync.specs.History.{SyncFeedings, Part, part_of, part_given, given_of, skipped_of, Aligned, few, turn}
+use Rattle.block_sync.specs.declared.GivenBlock.{GivenBlock}
 use Rattle.block_sync.specs.declared.Lock.{Lock}
 use Rattle.block_sync.specs.declared.Decision.{Decision}
 use Rattle.block_sync.specs.declared.BlockSync.{BlockSync}
@@ -58,27 +60,27 @@ made : (k : Lock) (l : List ℕ) → Made k l
 made k l = by (keeps k l) refl (scan l (length l - 6535))
   where
     by : (b : Bool) → keeps k l ≡ b → Scanned l (length l - 6535) → Made k l
-    by true e s = record { decision = record { skipped = 0; given = true; begins = false; lock = locked_as (polarity_at l 0 k.inverted) }; decides = follows e refl }
+    by true e s = record { decision = record { skipped = 0; begins = Some false; lock = locked_as (polarity_at l 0 k.inverted) }; decides = follows e refl }
     by false e (found at h s f) = record {
-      decision = record { skipped = at; given = true; begins = true; lock = locked_as (polarity_at l at false) };
+      decision = record { skipped = at; begins = Some true; lock = locked_as (polarity_at l at false) };
       decides = begins at e (first at (omega arith) (omega arith) s (λ q a b. f q b)) refl;
     }
     by false e (clean f) = record {
-      decision = record { skipped = length l - 6535; given = false; begins = false; lock = unlocked };
+      decision = record { skipped = length l - 6535; begins = None; lock = unlocked };
       decides = searches e (nowhere (λ q a b. f q (omega arith))) refl;
     }
 
-record Some (k : Lock) (l : List ℕ) : Type 0 where
+record SomeParts (k : Lock) (l : List ℕ) : Type 0 where
   parts : List Part
   last : Lock
   left : List ℕ
   aligned : Aligned k l parts last left
 
-aligned_some : (n : ℕ) (k : Lock) (l : List ℕ) → length l ≤ n → Some k l
+aligned_some : (n : ℕ) (k : Lock) (l : List ℕ) → length l ≤ n → SomeParts k l
 aligned_some zero k l h = record { parts = []; last = k; left = l; aligned = few {l = l} (omega arith) }
 aligned_some (suc n) k l h = by (dec_lt (length l) 8168) (λ k' l' h'. aligned_some n k' l' h')
   where
-    by : Dec (length l < 8168) → ((k' : Lock) (l' : List ℕ) → length l' ≤ n → Some k' l') → Some k l
+    by : Dec (length l < 8168) → ((k' : Lock) (l' : List ℕ) → length l' ≤ n → SomeParts k' l') → SomeParts k l
     by (yes z) rec = record { parts = []; last = k; left = l; aligned = few {l = l} z }
     by (no z) rec =
         let m = made k (take 8168 l) in
@@ -92,12 +94,12 @@ aligned_some (suc n) k l h = by (dec_lt (length l) 8168) (λ k' l' h'. aligned_s
 take_followers : (n : ℕ) (bs : List (List ℕ)) → take n (followers bs) ≡ followers (take n bs)
 take_followers zero bs = refl
 take_followers (suc n) [] = refl
-take_followers (suc n) (b ∷ bs) = ap (λ (l : List GivenBlock). record { begins = false; block = b } ∷ l) (take_followers n bs)
+take_followers (suc n) (b ∷ bs) = ap (λ (l : List GivenBlock). record { begins = false; bytes = b } ∷ l) (take_followers n bs)
 
 take_begun : (n : ℕ) (bs : List (List ℕ)) → take n (begun bs) ≡ begun (take n bs)
 take_begun zero bs = refl
 take_begun (suc n) [] = refl
-take_begun (suc n) (b ∷ bs) = ap (λ (l : List GivenBlock). record { begins = true; block = b } ∷ l) (take_followers n bs)
+take_begun (suc n) (b ∷ bs) = ap (λ (l : List GivenBlock). record { begins = true; bytes = b } ∷ l) (take_followers n bs)
 
 front_begun : (g rest : List GivenBlock) (bs : List (List ℕ)) → g ++ rest ≡ begun bs → g ≡ begun (take (length g) bs)
 front_begun g rest bs e = sym (take-append_seam g rest) ∙ (ap (take (length g)) e ∙ take_begun (length g) bs)
@@ -155,15 +157,15 @@ none_given {k} {last} {l} (turn {parts = ps} d h x a) e = by x (λ z. none_given
     size : length w ≡ 8168
     size = length-take-le 8168 l h
 
-    counts : (b : Bool) → d.given ≡ b → length (pick b (record { begins = d.begins; block = block_of d.lock.inverted (part_of d w).bits } ∷ []) [] ++ given_of ps) ≡ 0
-    counts b z = ap (λ (b : Bool). length (pick b (record { begins = d.begins; block = block_of d.lock.inverted (part_of d w).bits } ∷ []) [] ++ given_of ps)) (sym z) ∙ e
+    counts : (b : Bool) → is_some d.begins ≡ b → length (pick b (record { begins = unwrap_or d.begins false; bytes = block_of d.lock.inverted (part_of d w).bits } ∷ []) [] ++ given_of ps) ≡ 0
+    counts b z = ap (λ (b : Bool). length (pick b (record { begins = unwrap_or d.begins false; bytes = block_of d.lock.inverted (part_of d w).bits } ∷ []) [] ++ given_of ps)) (sym z) ∙ e
 
     by : Decides k w d → (length (given_of ps) ≡ 0 → skipped_of ps ≡ 1633 * length ps) → length (take d.skipped w) + skipped_of ps ≡ 1633 * length (part_of d w ∷ ps)
-    by (follows z r) rec = absurd (let y = counts true (ap (λ (y : Decision). y.given) r) in omega arith)
-    by (begins at z s r) rec = absurd (let y = counts true (ap (λ (y : Decision). y.given) r) in omega arith)
+    by (follows z r) rec = absurd (let y = counts true (ap (λ (y : Decision). is_some y.begins) r) in omega arith)
+    by (begins at z s r) rec = absurd (let y = counts true (ap (λ (y : Decision). is_some y.begins) r) in omega arith)
     by (searches z s r) rec =
         let y = ap (λ (y : Decision). y.skipped) r in
-        omega (arith, size, length-take-le d.skipped w (omega (arith, size)), rec (counts false (ap (λ (y : Decision). y.given) r)))
+        omega (arith, size, length-take-le d.skipped w (omega (arith, size)), rec (counts false (ap (λ (y : Decision). is_some y.begins) r)))
 
 -- ---- what was given so far
 

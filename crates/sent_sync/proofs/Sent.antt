@@ -23,7 +23,8 @@ use Rattle.convolutional_code.proofs.Bits.{length_bits}
 use Rattle.sync_search.specs.Sync.{byte_at}
 use Rattle.block_sync.specs.Decision.{polarity_at}
 use Rattle.block_sync.specs.Grid.{sync_byte, turned_byte, SyncGrid, grid_blocks, begun, Drained, Unsynced}
-use Rattle.block_sync.specs.History.{GivenBlock, SyncFeedings}
+use Rattle.block_sync.specs.History.{SyncFeedings}
+use Rattle.block_sync.specs.declared.GivenBlock.{GivenBlock}
 use Rattle.block_sync.specs.declared.BlockSync.{BlockSync}
 use Rattle.block_sync.proofs.Majority.{SyncHere, majority}
 use Rattle.block_sync.proofs.Packed.{byte_turned}

@@ -7,7 +7,7 @@ use Rattle.convolutional_code.specs.Bits.{bits_of}
 use Rattle.sent_blocks.specs.Blocks.{interleaved_blocks}
 use Rattle.block_sync.specs.Decision.{turned_bits}
 use Rattle.block_sync.specs.Grid.{begun}
-use Rattle.block_sync.specs.History.{GivenBlock}
+use Rattle.block_sync.specs.declared.GivenBlock.{GivenBlock}
 use Rattle.block_sync.specs.declared.BlockSync.{BlockSync}
 
 -- the bits of the blocks from block b on, as they come

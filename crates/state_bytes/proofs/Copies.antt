@@ -18,14 +18,6 @@ front bytes output at end size e h =
     ap (λ (i : ℕ). placed output 0 (take i (drop at bytes))) q
     ∙ ap (λ (i : ℕ). take size (drop at bytes) ++ drop i output) m
 
--- a part copied to an output of its length
-pub whole : (bytes output : List ℕ) (at end size : ℕ) → end ≡ at + size → end ≤ length bytes → length output ≡ size
-    → placed output 0 (take (end - at) (drop at bytes)) ≡ take size (drop at bytes)
-whole bytes output at end size e h n =
-    front bytes output at end size e h
-    ∙ ap (λ (l : List ℕ). take size (drop at bytes) ++ l) (drop_of_length-le output {i = size} (omega arith))
-    ∙ append-nil (take size (drop at bytes))
-
 -- a list put after those that are written
 pub next : (a x b₀ b b' : List ℕ) (n m : ℕ) → length a ≡ n → n + length x ≡ m → b ≡ a ++ drop n b₀ → b' ≡ placed b n x → b' ≡ a ++ x ++ drop m b₀
 next a x b₀ b b' n m h k e f =

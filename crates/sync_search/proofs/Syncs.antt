@@ -34,16 +34,6 @@ by_other p i e h = rw (eq-eqb (p + i) 5 e, le-ltb p 2 h) refl
 abbrev pub Passed : List ℕ → ℕ → ℕ → Type 0
 Passed l from at = (q : ℕ) → from ≤ q → q < at → sync_at l q ≡ false
 
-pub passed_none : (l : List ℕ) (from : ℕ) → Passed l from from
-passed_none l from q h k = absurd (omega arith)
-
-pub passed_more : (l : List ℕ) (from at : ℕ) → Passed l from at → sync_at l at ≡ false → Passed l from (at + 1)
-passed_more l from at p e q h k = by (ℕ_discrete q at)
-  where
-    by : Dec (q ≡ at) → sync_at l q ≡ false
-    by (yes s) = ap (sync_at l) s ∙ e
-    by (no n) = p q h (omega arith)
-
 -- ---- a half turn of the carrier
 
 -- every bit inverted

@@ -2,10 +2,8 @@
 -- Clauses: EN 300 421, 4.4.2 and 4.4.3, note 1 (source document 002): the sync bytes keep their period of 204 bytes in the interleaved stream, and tell a
 -- half turn of the carrier, which inverts every bit.
 -- Assumes nothing.
-use Rattle.std.specs.Prelude.{◌≡◌, Bool, true, false, List, ℕ, ◌+◌, ◌*◌, ◌%◌, ◌≤◌, ◌<◌, eqb, ltb, length, get_or}
+use Rattle.std.specs.Prelude.{◌≡◌, Bool, true, false, List, ℕ, ◌+◌, ◌*◌, ◌%◌, ◌≤◌, ◌<◌, eqb, ltb, length, get_or, Option, Some, None}
 use Rattle.common.specs.Choice.{pick, indicator}
-use Rattle.sync_search.specs.declared.SyncPlace.{SyncPlace}
-use Rattle.sync_search.specs.declared.SyncPlace.TheVariants.{At, Nowhere}
 
 -- the byte that eight bits from a place on make, the first on top
 unfoldable pub byte_at : List ℕ → ℕ → ℕ
@@ -36,6 +34,6 @@ abbrev pub Enough : List ℕ → ℕ → Type 0
 Enough l at = at + 6536 ≤ length l
 
 -- the first place from a place on, or none
-pub data FirstSync (l : List ℕ) (from : ℕ) : SyncPlace → Type 0 where
-  first : (at : ℕ) → from ≤ at → Enough l at → sync_at l at ≡ true → ((q : ℕ) → from ≤ q → q < at → sync_at l q ≡ false) → FirstSync l from (At at)
-  nowhere : ((q : ℕ) → from ≤ q → Enough l q → sync_at l q ≡ false) → FirstSync l from Nowhere
+pub data FirstSync (l : List ℕ) (from : ℕ) : Option ℕ → Type 0 where
+  first : (at : ℕ) → from ≤ at → Enough l at → sync_at l at ≡ true → ((q : ℕ) → from ≤ q → q < at → sync_at l q ≡ false) → FirstSync l from (Some at)
+  nowhere : ((q : ℕ) → from ≤ q → Enough l q → sync_at l q ≡ false) → FirstSync l from None

@@ -1,14 +1,28 @@
 -- What the loops over lanes keep.
 -- Assumes nothing.
-use mathlib.Core.Path.{◌≡◌, ◌∙◌}
+use mathlib.Core.Bool.{Bool, true, false}
+use mathlib.Core.Path.{◌≡◌, refl, ◌∙◌}
 use mathlib.Core.Logic.{⊎_elim}
 use mathlib.Core.List.{List}
-use Prim.Native.Nat.{ℕ, ◌+◌, ◌*◌, ◌≤◌, ◌<◌}
+use Prim.Native.Nat.{ℕ, min, ◌+◌, ◌*◌, ◌≤◌, ◌<◌}
 use native.Mathlib.Omega.{arith}
 use native.Mathlib.Nat.{eq-or-lt_of_le}
+use borrow.Author.Tests.{ltb-true, ltb-false}
+use lib.Dec.{ltb}
 use lib.ListN.{length, set, length-set}
 use lib.Seq.{get_or-set_same, get_or-set_other}
+use Rattle.common.specs.Choice.{pick}
 use Rattle.convolutional_code.specs.Costs.{at}
+use Rattle.viterbi_decoder.specs.Lanes.{lesser}
+
+-- ---- the lesser of two numbers
+
+pub min_lesser : (a b : ℕ) → min a b ≡ lesser a b
+min_lesser a b = go (ltb b a) refl
+  where
+    go : (t : Bool) → ltb b a ≡ t → min a b ≡ pick t b a
+    go true e = omega (arith, ltb-true b a e)
+    go false e = omega (arith, ltb-false b a e)
 
 -- ---- two lists woven
 

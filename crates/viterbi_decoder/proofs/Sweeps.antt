@@ -199,6 +199,20 @@ row_kept rows os p h i l =
     ∙ get_or-append (take p rows) os 0 i (omega (arith, e))
     ∙ get_or-take p rows i 0 l
 
+-- the same by the number of the next block
+pub going_begun : {F : Costs} {m n size : ℕ} {ms rows : List ℕ} → Going F m n size 0 (n % 6) ms 0 rows → Going F m n size (n % 6 + 6 * 0 - 6) (n % 6 + 6 * 0) ms 0 rows
+going_begun {n = n} g =
+    let begin : n % 6 + 6 * 0 - 6 ≡ 0 = omega arith in
+    let end : n % 6 + 6 * 0 ≡ n % 6 = omega arith in
+    rw (begin, end) g
+
+pub going_next : {F : Costs} {m n size : ℕ} (block : ℕ) {ms rows : List ℕ} {o : ℕ} → Going F m n size (n % 6 + 6 * block) (n % 6 + 6 * block + 6) ms o rows
+    → Going F m n size (n % 6 + 6 * (block + 1) - 6) (n % 6 + 6 * (block + 1)) ms o rows
+going_next {n = n} block g =
+    let begin : n % 6 + 6 * (block + 1) - 6 ≡ n % 6 + 6 * block = omega arith in
+    let end : n % 6 + 6 * (block + 1) ≡ n % 6 + 6 * block + 6 = omega arith in
+    rw (begin, end) g
+
 module _ {F : Costs} {m n size k end : ℕ} {ms : List ℕ} {o : ℕ} {rows : List ℕ} (g : Going F m n size k end ms o rows) (hs : (k s b : ℕ) → F k s b ≤ 14) (hn : n ≤ 1632) where
   -- the offset is at most a metric
   pub offset_le : o ≤ 30000

@@ -2,10 +2,10 @@
 // Inner: its functions may require what the crates above have tested. docs/ARCHITECTURE.md names the public surface.
 #![tactic(auto)]
 
-ghost use Rattle.std.specs.Prelude.{◌≡◌, [], ◌++◌, reverse, ℕ, ◌+◌, ◌-◌, ◌*◌, ◌/◌, ◌%◌, ◌<◌, ◌≤◌, eqb, length, get_or, take, drop};
+ghost use Rattle.std.specs.Prelude.{◌≡◌, [], ◌++◌, reverse, ℕ, ◌+◌, ◌*◌, ◌/◌, ◌%◌, ◌<◌, ◌≤◌, eqb, length, get_or, take, drop};
 ghost use Rattle.common.specs.Choice.{pick};
 ghost use Rattle.viterbi_decoder.specs.Best.{Decoded};
-ghost use Rattle.convolutional_code.specs.Costs.{cost_from, at, decided, zero_cost, one_cost, step_costs, Pairs};
+ghost use Rattle.convolutional_code.specs.Costs.{cost_from, at, decided, one_cost, step_costs, Pairs};
 ghost use Rattle.viterbi_decoder.specs.Metric.{far, FirstLeast};
 ghost use Rattle.viterbi_decoder.specs.Lanes.{lane, held, CostRows, SumRows, Bounded, row_cost, row_costs, lesser as lesser_of, chosen as chosen_of, Stepped, Forward, low, traced};
 
@@ -36,23 +36,17 @@ fn decide(bit: u8, zero: u8, one: u8) -> u8
     if bit == 0 { zero } else { one }
 }
 
-fn lesser(a: u8, b: u8) -> u8
-    ensures { result ≡ lesser_of a b }
-{
-    if b < a { b } else { a }
-}
-
 // p if a wins, and q if b does. Compared with the minimum, which is computed already.
 fn chosen(a: u8, b: u8, p: u8, q: u8) -> u8
     ensures { result ≡ chosen_of a b p q }
 {
-    if lesser(a, b) == a { p } else { q }
+    if a.min(b) == a { p } else { q }
 }
 
 // The lane of a memory, and the memory of a lane.
 fn lane_of(s: usize) -> usize
     requires { s < 64 }
-    ensures { result ≡ lane s }
+    ensures { (result ≡ lane s) × (result < 64) }
 {
     s % 2 * 32 + s / 2 % 2 * 16 + s / 4 % 2 * 8 + s / 8 % 2 * 4 + s / 16 % 2 * 2 + s / 32 % 2
 }
@@ -62,22 +56,10 @@ fn coded_costs(bits: &[u8; 64], zero: u8, one: u8) -> [u8; 64]
     requires { (zero ≤ 7) × (one ≤ 7) }
     ensures { (i : ℕ) → i < 64 → at result i ≡ decided zero one (at bits.now i) }
 {
-    let mut r = [0u8; 64];
-    let mut i = 0;
-    while i < 64 {
-        r[i] = decide(bits[i], zero, one);
-        i += 1;
-    }
-    r
+    common::array_of(|i| decide(bits[i], zero, one))
 }
 
-// What deciding a coded bit as 0 costs by the decision that was received on it, and as 1.
-fn zero_cost(decision: u8) -> u8
-    ensures { (result ≡ zero_cost decision) × (result ≤ 7) }
-{
-    if decision < 8 { 7 - decision } else { 0 }
-}
-
+// What deciding a coded bit as 1 costs by the decision that was received on it. Deciding it as 0 costs 7 less the decision.
 fn one_cost(decision: u8) -> u8
     ensures { (result ≡ one_cost decision) × (result ≤ 7) }
 {
@@ -89,11 +71,8 @@ fn write_costs(bits: &[u8; 64], rows: &mut [[u8; 64]; 9])
     requires { length rows.old ≡ 9 }
     ensures { CostRows (at bits.now) rows.new }
 {
-    let mut n = 0;
-    while n < 9 {
-        let row = coded_costs(bits, zero_cost(n as u8), one_cost(n as u8));
-        rows[n] = row;
-        n += 1;
+    for n in 0..9u8 {
+        rows[n as usize] = coded_costs(bits, 7u8.saturating_sub(n), one_cost(n));
     }
 }
 
@@ -101,13 +80,7 @@ fn sums(x: &[u8; 64], y: &[u8; 64]) -> [u8; 64]
     requires { (i : ℕ) → i < 64 → at x.now i + at y.now i < 256 }
     ensures { (i : ℕ) → i < 64 → at result i ≡ at x.now i + at y.now i }
 {
-    let mut r = [0u8; 64];
-    let mut i = 0;
-    while i < 64 {
-        r[i] = x[i] + y[i];
-        i += 1;
-    }
-    r
+    common::array_of(|i| x[i] + y[i])
 }
 
 // The branch metrics of each step that there can be: row 9 x + y has the sums of row x of X and row y of Y.
@@ -115,13 +88,8 @@ fn write_sums(xs: &[[u8; 64]; 9], ys: &[[u8; 64]; 9], rows: &mut [[u8; 64]; 81])
     requires { (length rows.old ≡ 81) × ((x y i : ℕ) → x < 9 → y < 9 → i < 64 → at (get_or xs.now x []) i + at (get_or ys.now y []) i < 256) }
     ensures { SumRows xs.now ys.now rows.new }
 {
-    let mut n = 0;
-    while n < 81 {
-        let x = xs[n / 9];
-        let y = ys[n % 9];
-        let row = sums(&x, &y);
-        rows[n] = row;
-        n += 1;
+    for n in 0..81 {
+        rows[n] = sums(&xs[n / 9], &ys[n % 9]);
     }
 }
 
@@ -136,17 +104,9 @@ fn halves(row: &[u8; 64]) -> BranchMetrics
     ensures { ((i : ℕ) → i < 32 → at result.even i ≡ at row.now i)
         × ((i : ℕ) → i < 32 → at result.odd i ≡ at row.now (i + 32)) }
 {
-    let mut even = [0u8; 32];
-    let mut odd = [0u8; 32];
-    let mut i = 0;
-    while i < 32 {
-        even[i] = row[i];
-        odd[i] = row[i + 32];
-        i += 1;
-    }
     BranchMetrics {
-        even: even,
-        odd: odd,
+        even: common::array_of(|i| row[i]),
+        odd: common::array_of(|i| row[i + 32]),
     }
 }
 
@@ -155,13 +115,7 @@ fn lesser_ways(metrics: &[u8; 64], costs: &[u8; 32], others: &[u8; 32]) -> [u8; 
     requires { (i : ℕ) → i < 32 → (at metrics.now i + at costs.now i < 256) × (at metrics.now (i + 32) + at others.now i < 256) }
     ensures { (i : ℕ) → i < 32 → at result i ≡ lesser_of (at metrics.now i + at costs.now i) (at metrics.now (i + 32) + at others.now i) }
 {
-    let mut r = [0u8; 32];
-    let mut i = 0;
-    while i < 32 {
-        r[i] = lesser(metrics[i] + costs[i], metrics[i + 32] + others[i]);
-        i += 1;
-    }
-    r
+    common::array_of(|i| (metrics[i] + costs[i]).min(metrics[i + 32] + others[i]))
 }
 
 // The origins that go with the ways selected.
@@ -174,18 +128,14 @@ fn ways_chosen(
     requires { (i : ℕ) → i < 32 → (at metrics.now i + at costs.now i < 256) × (at metrics.now (i + 32) + at others.now i < 256) }
     ensures { (i : ℕ) → i < 32 → at result i ≡ chosen_of (at metrics.now i + at costs.now i) (at metrics.now (i + 32) + at others.now i) (at origins.now i) (at origins.now (i + 32)) }
 {
-    let mut r = [0u8; 32];
-    let mut i = 0;
-    while i < 32 {
-        r[i] = chosen(
+    common::array_of(|i| {
+        chosen(
             metrics[i] + costs[i],
             metrics[i + 32] + others[i],
             origins[i],
             origins[i + 32],
-        );
-        i += 1;
-    }
-    r
+        )
+    })
 }
 
 // The values of the memories with newest bit 0 in the even lanes, and of those with newest bit 1 in the odd ones.
@@ -193,42 +143,9 @@ fn woven(low: &[u8; 32], high: &[u8; 32]) -> [u8; 64]
     ensures { (i : ℕ) → i < 32 → (at result (2 * i) ≡ at low.now i) × (at result (2 * i + 1) ≡ at high.now i) }
 {
     let mut r = [0u8; 64];
-    let mut i = 0;
-    while i < 32 {
+    for i in 0..32 {
         r[2 * i] = low[i];
         r[2 * i + 1] = high[i];
-        i += 1;
-    }
-    r
-}
-
-fn above_84(x: u8) -> u8
-    ensures { (result ≡ x - 84) × (result ≤ 171) }
-{
-    if x < 84 { 0 } else { x - 84 }
-}
-
-fn all_above_84(numbers: &[u8; 64]) -> [u8; 64]
-    ensures { (t : ℕ) → t < 64 → (at result t ≡ at numbers.now t - 84) × (at result t ≤ 171) }
-{
-    let mut r = [0u8; 64];
-    let mut s = 0;
-    while s < 64 {
-        r[s] = above_84(numbers[s]);
-        s += 1;
-    }
-    r
-}
-
-fn lowered(metrics: &[u8; 64], by: &[u8; 64]) -> [u8; 64]
-    requires { (t : ℕ) → t < 64 → at by.now t ≤ at metrics.now t }
-    ensures { (t : ℕ) → t < 64 → at result t ≡ at metrics.now t - at by.now t }
-{
-    let mut r = [0u8; 64];
-    let mut s = 0;
-    while s < 64 {
-        r[s] = metrics[s] - by[s];
-        s += 1;
     }
     r
 }
@@ -245,21 +162,17 @@ fn step(row: &[u8; 64], metrics: &[u8; 64], origins: &[u8; 64]) -> Row
     ensures { Stepped (held metrics.now) (row_cost row.now) origins.now result.metrics result.origins }
 {
     let costs = halves(row);
-    let a = costs.even;
-    let c = costs.odd;
-    let low = lesser_ways(metrics, &a, &c);
-    let high = lesser_ways(metrics, &c, &a);
-    let low_from = ways_chosen(metrics, &a, &c, origins);
-    let high_from = ways_chosen(metrics, &c, &a, origins);
-    let next = woven(&low, &high);
-    let from = woven(&low_from, &high_from);
+    let low = lesser_ways(metrics, &costs.even, &costs.odd);
+    let high = lesser_ways(metrics, &costs.odd, &costs.even);
+    let low_from = ways_chosen(metrics, &costs.even, &costs.odd, origins);
+    let high_from = ways_chosen(metrics, &costs.odd, &costs.even, origins);
     Row {
-        metrics: next,
-        origins: from,
+        metrics: woven(&low, &high),
+        origins: woven(&low_from, &high_from),
     }
 }
 
-// The metrics before the first step.
+// The metrics before the first step. A memory stays a number below 64: it indexes the lanes, callers hold it as a byte, and the definitions count with it.
 fn start(memory: usize) -> [u8; 64]
     requires { memory < 64 }
     ensures { (s : ℕ) → s < 64 → held result s ≡ pick (eqb s memory) 0 far }
@@ -273,13 +186,7 @@ fn start(memory: usize) -> [u8; 64]
 fn ordered(metrics: &[u8; 64]) -> [u8; 64]
     ensures { (s : ℕ) → s < 64 → at result s ≡ held metrics.now s }
 {
-    let mut r = [0u8; 64];
-    let mut s = 0;
-    while s < 64 {
-        r[s] = metrics[lane_of(s)];
-        s += 1;
-    }
-    r
+    common::array_of(|s| metrics[lane_of(s)])
 }
 
 // The first of the memories with the least metric.
@@ -287,12 +194,10 @@ fn first_least(metrics: &[u8; 64]) -> usize
     ensures { FirstLeast (at metrics.now) 64 result }
 {
     let mut best = 0;
-    let mut s = 1;
-    while s < 64 {
+    for s in 1..64 {
         if metrics[s] < metrics[best] {
             best = s;
         }
-        s += 1;
     }
     best
 }
@@ -303,22 +208,21 @@ struct Survivors {
     offset: usize,
 }
 
-// Normalization of the metrics: all are lowered alike, so that lane 0 has at most 84. What they are lowered by is computed in each lane.
+// Normalization of the metrics: all are lowered alike, so that lane 0 has at most 84.
 fn levelled(metrics: &[u8; 64], offset: usize) -> Survivors
     requires { (offset ≤ 30000) × ((s t : ℕ) → s < 64 → t < 64 → at metrics.now s ≤ at metrics.now t + 84) }
     ensures { ((t : ℕ) → t < 64 → at result.metrics t + result.offset ≡ at metrics.now t + offset) × ((t : ℕ) → t < 64 → at result.metrics t ≤ 168) }
 {
-    let first = [metrics[0]; 64];
-    let by = all_above_84(&first);
-    let lower = lowered(metrics, &by);
+    let by = metrics[0].saturating_sub(84);
     Survivors {
-        metrics: lower,
-        offset: offset + by[0] as usize,
+        metrics: common::array_of(|t| metrics[t] - by),
+        offset: offset + by as usize,
     }
 }
 
 // All n steps: the metrics after them, and a row of 64 origins for each block of six, where the origin of a lane is the lane that its path was in before the
 // block. The steps that are left over make a shorter block, which comes first and needs no row.
+// That each step is a pair of decisions, `Pairs`, stays a fact: the steps are bytes in a buffer of the caller's, each an index into the costs.
 fn forward(
     costs: &[[u8; 64]; 81],
     steps: &[u8],
@@ -331,32 +235,23 @@ fn forward(
 {
     let mut metrics = start(memory);
     let mut offset = 0;
-    let mut k = 0;
-    let mut end = n % 6;
-    while end <= n {
+    for block in 0..n / 6 + 1 {
+        let end = n % 6 + 6 * block;
+        let from = end.saturating_sub(6);
         let mut origins = LANES;
-        while k < end {
-            let costs_of = costs[steps[k] as usize];
-            let row = step(&costs_of, &metrics, &origins);
-            let next = row.metrics;
-            let from = row.origins;
-            metrics = next;
-            origins = from;
-            k += 1;
+        for k in from..end {
+            let row = step(&costs[steps[k] as usize], &metrics, &origins);
+            metrics = row.metrics;
+            origins = row.origins;
         }
-        if end >= 6 {
-            common::put(&origins, 64 * (end / 6 - 1), rows);
+        if block > 0 {
+            common::put(&origins, 64 * (block - 1), rows);
             let level = levelled(&metrics, offset);
-            let lower = level.metrics;
-            metrics = lower;
+            metrics = level.metrics;
             offset = level.offset;
         }
-        end += 6;
     }
-    Survivors {
-        metrics: metrics,
-        offset: offset,
-    }
+    Survivors { metrics, offset }
 }
 
 // Writes the n low bits of a lane into the output from a place on, the lowest last.
@@ -365,11 +260,9 @@ fn write_low(lane: usize, n: usize, place: usize, output: &mut [u8])
     ensures { output.new ≡ take place output.old ++ reverse (low n lane) ++ drop (place + n) output.old }
 {
     let mut r = lane;
-    let mut i = n;
-    while 0 < i {
-        i -= 1;
+    for i in (0..n).rev() {
         output[place + i] = (r % 2) as u8;
-        r = r / 2;
+        r /= 2;
     }
 }
 
@@ -381,9 +274,7 @@ fn trace(rows: &[u8], end: usize, output: &mut [u8])
     let n = output.len();
     let rest = n % 6;
     let mut r = end;
-    let mut b = n / 6;
-    while 0 < b {
-        b -= 1;
+    for b in (0..n / 6).rev() {
         write_low(r, 6, rest + 6 * b, output);
         r = rows[64 * b + r] as usize;
     }
@@ -403,14 +294,12 @@ fn decode_rows(costs: &[[u8; 64]; 81], steps: &[u8], memory: usize, output: &mut
 {
     let mut rows = [0u8; 17408];
     let last = forward(costs, steps, memory, output.len(), &mut rows);
-    let lanes = last.metrics;
-    let offset = last.offset;
-    let metrics = ordered(&lanes);
+    let metrics = ordered(&last.metrics);
     let end = first_least(&metrics);
     trace(&rows, lane_of(end), output);
     DecodedRun {
         memory: end,
-        cost: metrics[end] as usize + offset,
+        cost: metrics[end] as usize + last.offset,
     }
 }
 
@@ -419,12 +308,10 @@ pub fn decode(steps: &[u8], memory: usize, output: &mut [u8]) -> DecodedRun
     requires { (length output.old ≤ length steps.now) × (length output.old ≤ 1632) × (memory < 64) × Pairs steps.now }
     ensures { Decoded (cost_from (step_costs steps.now) 0 memory) (length output.old) memory output.new result.cost result.memory }
 {
-    let xs = CODED_X;
     let mut x_costs = [[0u8; 64]; 9];
-    write_costs(&xs, &mut x_costs);
-    let ys = CODED_Y;
+    write_costs(&CODED_X, &mut x_costs);
     let mut y_costs = [[0u8; 64]; 9];
-    write_costs(&ys, &mut y_costs);
+    write_costs(&CODED_Y, &mut y_costs);
     let mut costs = [[0u8; 64]; 81];
     write_sums(&x_costs, &y_costs, &mut costs);
     decode_rows(&costs, steps, memory, output)

@@ -1,10 +1,10 @@
 -- `acquisition::end_blocks` meets its contract.
 -- Assumes nothing.
-use mathlib.Core.Path.{sym, ap, ap₂, ◌∙◌}
-use mathlib.Core.Bool.{false}
+use mathlib.Core.Path.{sym, ap, ◌∙◌}
 use Rattle.acquisition.specs.End.{over_with, end_of_blocks}
 use Rattle.acquisition.specs.declared.Acquisition.{Acquisition}
-use Rattle.acquisition.specs.declared.Event.{Event}
+use Rattle.std.specs.Prelude.{None}
+use Rattle.acquisition.specs.declared.Event.TheVariants.{Lost}
 use Rattle.acquisition.proofs.end_blocks.Goals as goal
 
 pub returns-in-Waits : goal.returns-in-Waits
@@ -14,4 +14,6 @@ pub returns-in-Block : goal.returns-in-Block
 returns-in-Block c = record { step = c.close_blocks-step.result; closes = c.close_blocks-step.ensures; result = c.goes_on.ensures ∙ ap (end_of_blocks c.args.state c.close_blocks-step.result) (sym c.in-Block.is) }
 
 pub returns-in-Lost : goal.returns-in-Lost
-returns-in-Lost c = let t = c.close_blocks-step.result in let e = c.in-Lost.is in record { step = t; closes = c.close_blocks-step.ensures; result = ap₂ (λ (x : Acquisition) (y : Event). record { acquisition = x; event = y; block = t.block; over = false; left = 0 }) c.ended-acquisition.ensures e ∙ ap (end_of_blocks c.args.state t) (sym e) }
+returns-in-Lost c =
+    let t = c.close_blocks-step.result in
+    record { step = t; closes = c.close_blocks-step.ensures; result = ap (λ (x : Acquisition). record { acquisition = x; event = Lost; over = None }) c.ended-acquisition.ensures ∙ ap (end_of_blocks c.args.state t) (sym c.in-Lost.is) }

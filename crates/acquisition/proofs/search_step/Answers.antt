@@ -1,16 +1,21 @@
 -- `acquisition::search_step` meets its contract.
 -- Assumes nothing.
-use mathlib.Core.Path.{◌≡◌, sym, ap, ◌∙◌, subst}
+use mathlib.Core.Path.{◌≡◌, refl, sym, ap, ◌∙◌, subst, subst₂}
 use mathlib.Core.List.{List, ◌++◌}
 use Prim.Native.Nat.{ℕ, ◌+◌, ◌-◌, ◌<◌, ◌≤◌}
 use native.Mathlib.Omega.{arith}
 use lib.ListN.{length, take, length-append}
-use Rattle.answer.specs.Number.{number_of}
+use Rattle.std.specs.Prelude.{Result, Ok, Err}
+use Rattle.std.specs.Result.{result_unwrap_or}
+use Rattle.answer.specs.Number.{answered, given_or}
+use Rattle.answer.specs.declared.Refusal.{Refusal}
 use Rattle.common.proofs.Lists.{All-append}
 use Rattle.common.proofs.Padded.{padded_full}
 use Rattle.reader_stream.proofs.Runs.{all_take}
 use Rattle.node_search.specs.Hypotheses.{searched}
 use Rattle.node_search.specs.Search.{Searches, SearchesWindow}
+use Rattle.node_search.specs.declared.Search.{Search}
+use Rattle.node_search.specs.declared.Search.TheVariants.{Nothing}
 use Rattle.node_search.proofs.Found.{found_known, search_done}
 use Rattle.acquisition.specs.Step.{pending_of, searching_on, window_of, waiting, AcquisitionReady, AfterSearch, gathers, fills}
 use Rattle.acquisition.specs.declared.Acquisition.{Acquisition}
@@ -18,6 +23,11 @@ use Rattle.acquisition.specs.declared.Step.{Step}
 use Rattle.acquisition.proofs.Symbols.{front_length}
 use Rattle.acquisition.proofs.Ready.{searching_ready, after_search_ready, pending_length, gathered_front, window_length_lem}
 use Rattle.acquisition.proofs.search_step.Goals as goal
+
+-- what is taken for a search is what its promise speaks of
+taken : (r : Result Search Refusal) → given_or Nothing (λ (s : Search). s) r ≡ result_unwrap_or r Nothing
+taken (Ok s) = refl
+taken (Err e) = refl
 
 pub slice_bounds-joined-end : goal.slice_bounds-joined-end
 slice_bounds-joined-end c = front_length c.args.state.held c.args.state.pending (omega (arith, c.requires.0.window_size, c.requires.0.window_few))
@@ -53,20 +63,20 @@ pub searched-next-requires : goal.searched-next-requires
 searched-next-requires c =
     let window : c.joined-window.result ≡ window_of c.args.state c.args.piece.now = c.joined-window.ensures ∙ padded_full 1632 (window_of c.args.state c.args.piece.now)
     (window_length_lem c.args.state c.args.piece.now c.requires.0.window_size (omega (arith, c.requires.0.window_few)) c.if-piece-space.false) in
-    let searches : Searches (window_of c.args.state c.args.piece.now) (searched c.args.state.rate) c.search_window-result.result.search = let l = window_of c.args.state c.args.piece.now in
-    search_done c.args.state.rate l _ c.search_window-result.result.search c.requires.0.searched_known
+    let searches : Searches (window_of c.args.state c.args.piece.now) (searched c.args.state.rate) c.unwrap_or-search.result = let l = window_of c.args.state c.args.piece.now in
+    search_done c.args.state.rate l _ c.unwrap_or-search.result c.requires.0.searched_known
     (window_length_lem c.args.state c.args.piece.now c.requires.0.window_size (omega (arith, c.requires.0.window_few)) c.if-piece-space.false)
     (All-append (λ p. p < 81) (pending_of c.args.state) (take (1632 - c.args.state.held) c.args.piece.now) c.requires.0.window_small (all_take (1632 - c.args.state.held) c.args.piece.now c.requires.2))
-    (subst (λ (x : List ℕ). SearchesWindow c.args.state.rate x (number_of c.search_window-result.result.answer) c.search_window-result.result.search) (window) c.search_window-result.ensures) in
-    (ap length (window) ∙ window_length_lem c.args.state c.args.piece.now c.requires.0.window_size (omega (arith, c.requires.0.window_few)) c.if-piece-space.false, omega (arith, c.requires.0.window_came), omega (arith, c.requires.1, c.if-piece-space.false), found_known c.args.state.rate (window_of c.args.state c.args.piece.now) c.search_window-result.result.search (searches))
+    (subst₂ (λ (x : List ℕ) (s : Search). SearchesWindow c.args.state.rate x (answered c.search_window.result) s) (window) (taken c.search_window.result ∙ sym c.unwrap_or-search.ensures) c.search_window.ensures) in
+    (ap length (window) ∙ window_length_lem c.args.state c.args.piece.now c.requires.0.window_size (omega (arith, c.requires.0.window_few)) c.if-piece-space.false, omega (arith, c.requires.0.window_came), omega (arith, c.requires.1, c.if-piece-space.false), found_known c.args.state.rate (window_of c.args.state c.args.piece.now) c.unwrap_or-search.result (searches))
 
 pub returns : goal.returns
 returns c =
     let window : c.joined-window.result ≡ window_of c.args.state c.args.piece.now = c.joined-window.ensures ∙ padded_full 1632 (window_of c.args.state c.args.piece.now)
     (window_length_lem c.args.state c.args.piece.now c.requires.0.window_size (omega (arith, c.requires.0.window_few)) c.if-piece-space.false) in
-    let searches : Searches (window_of c.args.state c.args.piece.now) (searched c.args.state.rate) c.search_window-result.result.search = let l = window_of c.args.state c.args.piece.now in
-    search_done c.args.state.rate l _ c.search_window-result.result.search c.requires.0.searched_known
+    let searches : Searches (window_of c.args.state c.args.piece.now) (searched c.args.state.rate) c.unwrap_or-search.result = let l = window_of c.args.state c.args.piece.now in
+    search_done c.args.state.rate l _ c.unwrap_or-search.result c.requires.0.searched_known
     (window_length_lem c.args.state c.args.piece.now c.requires.0.window_size (omega (arith, c.requires.0.window_few)) c.if-piece-space.false)
     (All-append (λ p. p < 81) (pending_of c.args.state) (take (1632 - c.args.state.held) c.args.piece.now) c.requires.0.window_small (all_take (1632 - c.args.state.held) c.args.piece.now c.requires.2))
-    (subst (λ (x : List ℕ). SearchesWindow c.args.state.rate x (number_of c.search_window-result.result.answer) c.search_window-result.result.search) (window) c.search_window-result.ensures) in
-    let a : AfterSearch c.args.state.rate c.args.state.mirrored (c.args.state.came + (1632 - c.args.state.held)) (window_of c.args.state c.args.piece.now) c.search_window-result.result.search c.searched-next.result = subst (λ (l : List ℕ). AfterSearch c.args.state.rate c.args.state.mirrored (c.args.state.came + (1632 - c.args.state.held)) l c.search_window-result.result.search c.searched-next.result) (window) c.searched-next.ensures in let f = c.if-piece-space.false in (fills (omega (arith, f)) (record { search = c.search_window-result.result.search; searches = searches; next = c.searched-next.result; after = a; result = c.waits-2.ensures }), subst (λ (x : Step). AcquisitionReady x.acquisition) (sym c.waits-2.ensures) (after_search_ready c.args.state.rate c.args.state.mirrored (c.args.state.came + (1632 - c.args.state.held)) (window_of c.args.state c.args.piece.now) c.search_window-result.result.search c.searched-next.result c.requires.0.searched_known (window_length_lem c.args.state c.args.piece.now c.requires.0.window_size (omega (arith, c.requires.0.window_few)) f) (All-append (λ p. p < 81) (pending_of c.args.state) (take (1632 - c.args.state.held) c.args.piece.now) c.requires.0.window_small (all_take (1632 - c.args.state.held) c.args.piece.now c.requires.2)) (omega (arith, c.requires.0.window_came)) (omega (arith, c.requires.1, f)) (found_known c.args.state.rate (window_of c.args.state c.args.piece.now) c.search_window-result.result.search (searches)) a), subst (λ (x : Step). x.taken ≤ length c.args.piece.now) (sym c.waits-2.ensures) f)
+    (subst₂ (λ (x : List ℕ) (s : Search). SearchesWindow c.args.state.rate x (answered c.search_window.result) s) (window) (taken c.search_window.result ∙ sym c.unwrap_or-search.ensures) c.search_window.ensures) in
+    let a : AfterSearch c.args.state.rate c.args.state.mirrored (c.args.state.came + (1632 - c.args.state.held)) (window_of c.args.state c.args.piece.now) c.unwrap_or-search.result c.searched-next.result = subst (λ (l : List ℕ). AfterSearch c.args.state.rate c.args.state.mirrored (c.args.state.came + (1632 - c.args.state.held)) l c.unwrap_or-search.result c.searched-next.result) (window) c.searched-next.ensures in let f = c.if-piece-space.false in (fills (omega (arith, f)) (record { search = c.unwrap_or-search.result; searches = searches; next = c.searched-next.result; after = a; result = c.waits-2.ensures }), subst (λ (x : Step). AcquisitionReady x.acquisition) (sym c.waits-2.ensures) (after_search_ready c.args.state.rate c.args.state.mirrored (c.args.state.came + (1632 - c.args.state.held)) (window_of c.args.state c.args.piece.now) c.unwrap_or-search.result c.searched-next.result c.requires.0.searched_known (window_length_lem c.args.state c.args.piece.now c.requires.0.window_size (omega (arith, c.requires.0.window_few)) f) (All-append (λ p. p < 81) (pending_of c.args.state) (take (1632 - c.args.state.held) c.args.piece.now) c.requires.0.window_small (all_take (1632 - c.args.state.held) c.args.piece.now c.requires.2)) (omega (arith, c.requires.0.window_came)) (omega (arith, c.requires.1, f)) (found_known c.args.state.rate (window_of c.args.state c.args.piece.now) c.unwrap_or-search.result (searches)) a), subst (λ (x : Step). x.taken ≤ length c.args.piece.now) (sym c.waits-2.ensures) f)

@@ -11,7 +11,7 @@ returns c =
     λ i. record {
       turn = c.plain_of.ensures i;
       runs = record { rate = get_or bytes 13786 0; memory = get_or bytes 13787 0; held = c.pairs_at-held.ensures i; count = c.number_at-count.ensures i };
-      sync = record { lock = record { locked = c.low_of.ensures i; inverted = c.high_of.ensures i }; bits = c.bits_at-bits.ensures i; held = c.number_at-gathered.ensures i };
+      sync = record { lock = record { locked = c.low_of.ensures i; inverted = c.high_of.ensures i }; bits = c.array_at-bits.ensures i; held = c.number_at-gathered.ensures i };
       first = c.number_at-first.ensures i;
       used = c.number_at-used.ensures i;
     }

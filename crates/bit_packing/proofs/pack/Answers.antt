@@ -12,9 +12,6 @@ use Rattle.bit_packing.specs.Packing.{Packs, carried_bits}
 use Rattle.bit_packing.proofs.Packing.{carried_length, carried_none, packs_put, packs_fit, packs_all}
 use Rattle.bit_packing.proofs.pack.Goals as goal
 
-pub slice_bounds-pack_bits-end : goal.slice_bounds-pack_bits-end
-slice_bounds-pack_bits-end c = sym (length-take-le _ _ (omega (arith, c.if-bits-lacking.false)))
-
 pub pack_bits-first-requires : goal.pack_bits-first-requires
 pack_bits-first-requires c =
     let n = length-take-le ((8 - c.args.held) % 8) c.args.bits.now (omega (arith, c.if-bits-lacking.false)) in

@@ -1,6 +1,6 @@
 -- `bit_packing::pack_fresh` meets its contract.
 -- Assumes nothing.
-use mathlib.Core.Path.{◌≡◌, sym, ap, subst, ◌∙◌}
+use mathlib.Core.Path.{◌≡◌, ap, subst, ◌∙◌}
 use mathlib.Core.List.{List, [], ◌++◌}
 use Prim.Native.Nat.{ℕ, ◌+◌, ◌-◌, ◌*◌, ◌/◌, ◌≤◌}
 use native.Mathlib.Omega.{arith}
@@ -12,27 +12,10 @@ use Rattle.bit_packing.specs.Packing.{Packs}
 use Rattle.bit_packing.proofs.Packing.{packs_whole, packs_put, packs_fit}
 use Rattle.bit_packing.proofs.pack_fresh.Goals as goal
 
-pub slice_bounds-pack_bytes-end : goal.slice_bounds-pack_bytes-end
-slice_bounds-pack_bytes-end c = sym (length-take-le _ _ (omega arith))
-
 pub pack_bytes-whole-requires : goal.pack_bytes-whole-requires
 pack_bytes-whole-requires c =
     let n = length-take-le (length c.args.bits.now / 8 * 8) c.args.bits.now (omega arith) in
     (bits_take (length c.args.bits.now / 8 * 8) c.requires.0, omega (arith, n), omega (arith, n, c.requires.1))
-
-pub slice_bounds-pack_bits-count-2 : goal.slice_bounds-pack_bits-count-2
-slice_bounds-pack_bits-count-2 c =
-    let whole : Packs [] (take (length c.args.bits.now / 8 * 8) c.args.bits.now) c.args.output.now 0 0 c.pack_bytes-whole.result c.pack_bytes-whole.new.output = let end = length c.args.bits.now / 8 * 8 in
-    packs_whole 0 (take end c.args.bits.now) c.args.output.now c.pack_bytes-whole.result (omega (arith, length-take-le end c.args.bits.now (omega arith))) c.pack_bytes-whole.ensures.0 c.pack_bytes-whole.ensures.1 in
-    let fits : c.pack_bytes-whole.result ≤ length c.pack_bytes-whole.new.output = packs_fit (whole) in
-    fits
-
-pub slice_bounds-pack_bits-start-2 : goal.slice_bounds-pack_bits-start-2
-slice_bounds-pack_bits-start-2 c =
-    let whole : Packs [] (take (length c.args.bits.now / 8 * 8) c.args.bits.now) c.args.output.now 0 0 c.pack_bytes-whole.result c.pack_bytes-whole.new.output = let end = length c.args.bits.now / 8 * 8 in
-    packs_whole 0 (take end c.args.bits.now) c.args.output.now c.pack_bytes-whole.result (omega (arith, length-take-le end c.args.bits.now (omega arith))) c.pack_bytes-whole.ensures.0 c.pack_bytes-whole.ensures.1 in
-    let fits : c.pack_bytes-whole.result ≤ length c.pack_bytes-whole.new.output = packs_fit (whole) in
-    fits
 
 pub pack_bits-last-requires : goal.pack_bits-last-requires
 pack_bits-last-requires c =

@@ -1,16 +1,38 @@
 -- `block_sync::in_step` meets its contract.
 -- Assumes nothing.
-use Rattle.block_sync.proofs.Tests.{four_0, four_1, four_2, four_3}
+use mathlib.Core.Path.{refl}
+use Rattle.block_sync.proofs.Tests.{or_first, or_second, four}
 use Rattle.block_sync.proofs.in_step.Goals as goal
-
-pub returns-then-sync_or_end : goal.returns-then-sync_or_end
-returns-then-sync_or_end c = four_0 _ _ c.sync_or_end.ensures c.if-sync_or_end.true
-
-pub returns-then-sync_or_end-2 : goal.returns-then-sync_or_end-2
-returns-then-sync_or_end-2 c = four_1 _ _ _ c.sync_or_end.ensures c.sync_or_end-2.ensures c.if-sync_or_end.false c.if-sync_or_end-2.true
+use Rattle.block_sync.proofs.in_step.Goals.{then-sync_or_end, else-sync_or_end, then-sync_or_end-2, else-sync_or_end-2}
 
 pub returns-then-sync_or_end-3 : goal.returns-then-sync_or_end-3
-returns-then-sync_or_end-3 c = four_2 _ _ _ _ c.sync_or_end.ensures c.sync_or_end-2.ensures c.sync_or_end-3.ensures c.if-sync_or_end.false c.if-sync_or_end-2.false c.if-sync_or_end-3.true
+returns-then-sync_or_end-3 c =
+    four _ _ _ _ (
+    elim c.if-sync_or_end.branch [
+      | then-sync_or_end w ↦ or_first _ w.value-is c.sync_or_end.ensures w.if-sync_or_end.true
+      | else-sync_or_end w ↦ or_second _ c.sync_or_end.ensures w.if-sync_or_end.false w.value-is w.sync_or_end-else-sync_or_end.ensures
+    ]
+    )
+    (
+    elim c.if-sync_or_end-2.branch [
+      | then-sync_or_end-2 w ↦ or_first _ w.value-is refl w.if-sync_or_end-2.true
+      | else-sync_or_end-2 w ↦ or_second _ refl w.if-sync_or_end-2.false w.value-is w.sync_or_end-else-sync_or_end-2.ensures
+    ]
+    )
+    (or_first _ refl refl c.if-sync_or_end-3.true)
 
-pub returns : goal.returns
-returns c = four_3 _ _ _ _ _ c.sync_or_end.ensures c.sync_or_end-2.ensures c.sync_or_end-3.ensures c.sync_or_end-4.ensures c.if-sync_or_end.false c.if-sync_or_end-2.false c.if-sync_or_end-3.false
+pub returns-else-sync_or_end-3 : goal.returns-else-sync_or_end-3
+returns-else-sync_or_end-3 c =
+    four _ _ _ _ (
+    elim c.if-sync_or_end.branch [
+      | then-sync_or_end w ↦ or_first _ w.value-is c.sync_or_end.ensures w.if-sync_or_end.true
+      | else-sync_or_end w ↦ or_second _ c.sync_or_end.ensures w.if-sync_or_end.false w.value-is w.sync_or_end-else-sync_or_end.ensures
+    ]
+    )
+    (
+    elim c.if-sync_or_end-2.branch [
+      | then-sync_or_end-2 w ↦ or_first _ w.value-is refl w.if-sync_or_end-2.true
+      | else-sync_or_end-2 w ↦ or_second _ refl w.if-sync_or_end-2.false w.value-is w.sync_or_end-else-sync_or_end-2.ensures
+    ]
+    )
+    (or_second _ refl c.if-sync_or_end-3.false refl c.sync_or_end-else-sync_or_end-3.ensures)

@@ -1,8 +1,8 @@
 -- `block_sync::put_block` meets its contract.
 -- Assumes nothing.
-use mathlib.Core.Path.{◌≡◌, sym, ap, ◌∙◌}
+use mathlib.Core.Path.{ap, ◌∙◌}
 use native.Mathlib.Omega.{arith}
-use Rattle.common.proofs.Written.{written_none, written_next, written_length, written_whole}
+use Rattle.common.proofs.Written.{written_none, written_next}
 use Rattle.block_sync.specs.Grid.{turned_byte}
 use Rattle.block_sync.proofs.Packed.{block_length, block_at}
 use Rattle.block_sync.proofs.put_block.Goals as goal
@@ -11,22 +11,9 @@ pub loop-k-init : goal.loop-k-init
 loop-k-init c =
     written_none (omega (arith, block_length c.args.inverted c.args.bits.now c.requires.0, c.requires.1))
 
-pub bounds-output-k : goal.bounds-output-k
-bounds-output-k c = omega (arith, written_length c.loop-k.invariant, c.requires.1)
-
 pub loop-k-preserved : goal.loop-k-preserved
 loop-k-preserved c =
     let l = c.loop-k in
     let n = block_length c.args.inverted c.args.bits.now c.requires.0 in
     written_next l.invariant _ (omega arith)
     (c.turned_byte.ensures ∙ ap (turned_byte c.args.inverted) c.byte_at.ensures ∙ block_at c.args.inverted c.args.bits.now c.requires.0 l.k (omega arith))
-
-pub shape_of-output : goal.shape_of-output
-shape_of-output c = written_length c.loop-k.invariant
-
-pub returns : goal.returns
-returns c =
-    let l = c.loop-k in
-    let n = block_length c.args.inverted c.args.bits.now c.requires.0 in
-    let e : l.k ≡ 204 = omega (arith, l.invariant.within) in
-    written_whole l.invariant (n ∙ sym e) (c.requires.1 ∙ sym e)

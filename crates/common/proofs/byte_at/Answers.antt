@@ -22,14 +22,11 @@ divided-end n k left j d h =
     let e : 0 ≡ k - j = omega arith in
     ap (λ (m : ℕ). byte_at m left) e ∙ d.same
 
-pub loop-j-init : goal.loop-j-init
-loop-j-init c = divided-start _ _
+pub loop-init : goal.loop-init
+loop-init c = divided-start _ _
 
-pub loop-j-smaller : goal.loop-j-smaller
-loop-j-smaller c = omega (arith, c.loop-j-test.true)
-
-pub loop-j-preserved : goal.loop-j-preserved
-loop-j-preserved c = divided-more _ _ _ _ c.loop-j.invariant c.loop-j-test.true
+pub loop-preserved : goal.loop-preserved
+loop-preserved c = divided-more _ _ _ _ c.loop.invariant c.loop-test.true
 
 pub returns : goal.returns
-returns c = divided-end _ _ _ _ c.loop-j.invariant c.loop-j-test.false
+returns c = divided-end _ _ _ _ c.loop.invariant c.loop-test.false

@@ -10,8 +10,5 @@ pub record Divided (n k left j : ℕ) : Type 0 where
   pub within : j ≤ k
   pub same : byte_at (k - j) left ≡ byte_at k n
 
-abbrev pub invariant-loop-j : goal.invariant-loop-j
-invariant-loop-j l = Divided l.n l.k l.left l.j
-
-abbrev pub decreases-loop-j : goal.decreases-loop-j
-decreases-loop-j l = l.k - l.j
+abbrev pub invariant-loop : goal.invariant-loop
+invariant-loop l = Divided l.n l.k l.left l.counter

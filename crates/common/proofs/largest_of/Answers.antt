@@ -1,4 +1,4 @@
--- `common::largest_of` meets its contract: the largest of the first i bytes.
+-- `common::largest_of` meets its contract: the largest of the bytes before the one that comes.
 -- Assumes nothing.
 use mathlib.Core.Path.{refl, sym, ap, ◌∙◌}
 use Prim.Native.Nat.{ℕ, max}
@@ -8,15 +8,15 @@ use Rattle.common.proofs.Largest.{largest_more, largest_whole}
 use borrow.Author.Rules.{rules}
 use Rattle.common.proofs.largest_of.Goals as goal
 
-pub loop-i-init : goal.loop-i-init
+pub loop-byte-init : goal.loop-byte-init
 unfolding largest
-loop-i-init c = (search rules, refl)
+loop-byte-init c = refl
 
-pub loop-i-preserved : goal.loop-i-preserved
-loop-i-preserved c =
-    let l = c.loop-i in
+pub loop-byte-preserved : goal.loop-byte-preserved
+loop-byte-preserved c =
+    let l = c.loop-byte in
     let m = c.args.bytes.now in
-    (search rules, c.larger-most.ensures ∙ ap (λ (k : ℕ). max k (get_or m l.i 0)) l.invariant.1 ∙ sym (largest_more m l.i (search rules)))
+    c.max-most.ensures ∙ ap (λ (k : ℕ). max k (get_or m l.byte-index 0)) l.invariant ∙ sym (largest_more m l.byte-index (search rules))
 
 pub returns : goal.returns
-returns c = c.loop-i.invariant.1 ∙ largest_whole c.args.bytes.now c.loop-i.i (search rules)
+returns c = c.loop-byte.invariant ∙ largest_whole c.args.bytes.now c.loop-byte.byte-index (search rules)

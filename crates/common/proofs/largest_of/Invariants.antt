@@ -1,13 +1,9 @@
--- `common::largest_of` meets its contract: the largest of the first i bytes.
+-- `common::largest_of` meets its contract: the largest of the bytes before the one that comes.
 -- Assumes nothing.
 use mathlib.Core.Path.{◌≡◌}
-use Prim.Native.Nat.{◌-◌, ◌≤◌}
-use lib.ListN.{length, take}
+use lib.ListN.{take}
 use Rattle.common.specs.Lists.{largest}
 use Rattle.common.proofs.largest_of.Given as goal
 
-abbrev pub invariant-loop-i : goal.invariant-loop-i
-invariant-loop-i l = (l.i ≤ length l.bytes) × (l.most ≡ largest (take l.i l.bytes))
-
-abbrev pub decreases-loop-i : goal.decreases-loop-i
-decreases-loop-i l = length l.bytes - l.i
+abbrev pub invariant-loop-byte : goal.invariant-loop-byte
+invariant-loop-byte l = l.most ≡ largest (take l.byte-index l.bytes)

@@ -1,49 +1,46 @@
 -- `convolutional_code::convolve` meets its contract.
 -- Assumes nothing.
-use mathlib.Core.Path.{◌≡◌, refl, ap, sym, ◌∙◌}
-use mathlib.Core.List.{List, [], ◌∷◌}
+use borrow.Author.Rules.{rules}
+use mathlib.Core.Path.{◌≡◌, ap, sym, ◌∙◌}
 use Prim.Native.Nat.{ℕ, ◌+◌, ◌%◌, ◌<◌}
 use native.Mathlib.Nat.{zero-add}
 use native.Mathlib.Omega.{arith}
 use lib.ListN.{length, get_or}
-use Rattle.common.proofs.Written.{written_none, written_more, written_length}
-use Rattle.common.proofs.Outputs.{placed_all}
+use Rattle.common.proofs.Written.{written_none, written_next, written_length, written_whole}
 use Rattle.convolutional_code.specs.Sweep.{sweep, total_at}
 use Rattle.convolutional_code.proofs.Bits.{bits_at}
-use Rattle.convolutional_code.proofs.Sweep.{length_sweep, sweep_at}
+use Rattle.convolutional_code.proofs.Sweep.{length_sweep, sweep_at, total_five}
 use Rattle.convolutional_code.proofs.convolve.Goals as goal
 
 pub loop-n-init : goal.loop-n-init
 loop-n-init c =
-    let taps : List ℕ = c.args.a ∷ c.args.b ∷ c.args.c ∷ c.args.d ∷ c.args.e ∷ [] in
-    (omega arith, written_none (rw (length_sweep (taps) c.args.history.now 0 c.args.bits) c.requires.8))
+    let taps = c.args.taps in
+    written_none (rw (length_sweep taps c.args.history.now 0 (length c.args.coded.now)) (omega arith))
 
 pub parity-requires : goal.parity-requires
 parity-requires c =
-    let b = c.requires.0 in
-    let n = c.loop-n.n in
-    (bits_at b (n + c.args.a), bits_at b (n + c.args.b), bits_at b (n + c.args.c), bits_at b (n + c.args.d), bits_at b (n + c.args.e))
+    let bit : (i : ℕ) → get_or c.args.history.now (c.loop-n.n + get_or c.args.taps i 0) 0 < 2 = λ i. bits_at c.requires.0 (c.loop-n.n + get_or c.args.taps i 0) in
+    (bit 0, bit 1, bit 2, bit 3, bit 4)
 
-pub bounds-coded-at : goal.bounds-coded-at
-bounds-coded-at c =
-    omega (arith, written_length c.loop-n.invariant.1, c.requires.8)
+pub bounds-coded-n : goal.bounds-coded-n
+bounds-coded-n c =
+    omega (arith, written_length c.loop-n.invariant)
 
 pub loop-n-preserved : goal.loop-n-preserved
 loop-n-preserved c =
-    let taps : List ℕ = c.args.a ∷ c.args.b ∷ c.args.c ∷ c.args.d ∷ c.args.e ∷ [] in
+    let taps = c.args.taps in
     let l = c.loop-n in
     let h = c.args.history.now in
-    let at : get_or (sweep (taps) h 0 c.args.bits) l.n 0 ≡ total_at (taps) h l.n % 2
-    = sweep_at (taps) h 0 c.args.bits l.n (omega arith) ∙ ap (λ (n : ℕ). total_at (taps) h n % 2) (zero-add l.n)
+    let at : get_or (sweep taps h 0 (length c.args.coded.now)) l.n 0 ≡ total_at taps h l.n % 2
+    = sweep_at taps h 0 (length c.args.coded.now) l.n (omega arith) ∙ ap (λ (n : ℕ). total_at taps h n % 2) (zero-add l.n)
     in
-    let output : l.n < length (sweep (taps) h 0 c.args.bits) = rw (length_sweep (taps) h 0 c.args.bits) (omega arith) in
-    (omega arith, written_more l.invariant.1 _ _ output refl (c.parity.ensures ∙ sym at))
+    let output : l.n < length (sweep taps h 0 (length c.args.coded.now)) = rw (length_sweep taps h 0 (length c.args.coded.now)) (omega arith) in
+    written_next l.invariant _ output (c.parity.ensures ∙ (ap (λ (x : ℕ). x % 2) (total_five taps h l.n (search rules)) ∙ sym at))
 
 pub shape_of-coded : goal.shape_of-coded
-shape_of-coded c = written_length c.loop-n.invariant.1
+shape_of-coded c = written_length c.loop-n.invariant
 
 pub returns : goal.returns
 returns c =
-    let taps : List ℕ = c.args.a ∷ c.args.b ∷ c.args.c ∷ c.args.d ∷ c.args.e ∷ [] in
-    let n : c.args.bits ≡ c.loop-n.n = omega arith in
-    placed_all c.loop-n.invariant.1 (length_sweep (taps) c.args.history.now 0 c.args.bits ∙ n)
+    let n : length c.args.coded.now ≡ c.loop-n.n = omega arith in
+    written_whole c.loop-n.invariant (length_sweep c.args.taps c.args.history.now 0 (length c.args.coded.now) ∙ n) n

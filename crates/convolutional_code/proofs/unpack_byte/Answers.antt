@@ -1,32 +1,9 @@
 -- `convolutional_code::unpack_byte` meets its contract.
 -- Assumes nothing.
 use mathlib.Core.List.{[], ◌∷◌}
-use native.Mathlib.Omega.{arith}
-use lib.ListN.{length-set}
 use lib.Seq.{sets-eq}
 use Rattle.convolutional_code.specs.Bits.{bits_of}
 use Rattle.convolutional_code.proofs.unpack_byte.Goals as goal
-
-pub bounds-output-1 : goal.bounds-output-1
-bounds-output-1 c = simp length-set (omega arith)
-
-pub bounds-output-2 : goal.bounds-output-2
-bounds-output-2 c = simp length-set (omega arith)
-
-pub bounds-output-3 : goal.bounds-output-3
-bounds-output-3 c = simp length-set (omega arith)
-
-pub bounds-output-4 : goal.bounds-output-4
-bounds-output-4 c = simp length-set (omega arith)
-
-pub bounds-output-5 : goal.bounds-output-5
-bounds-output-5 c = simp length-set (omega arith)
-
-pub bounds-output-6 : goal.bounds-output-6
-bounds-output-6 c = simp length-set (omega arith)
-
-pub bounds-output-7 : goal.bounds-output-7
-bounds-output-7 c = simp length-set (omega arith)
 
 pub returns : goal.returns
 unfolding bits_of

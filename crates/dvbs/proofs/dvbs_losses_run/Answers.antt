@@ -8,7 +8,8 @@ use Rattle.dvbs.proofs.dvbs_losses_run.Goals as goal
 pub returns-then-answer-lt1 : goal.returns-then-answer-lt1
 returns-then-answer-lt1 c = untold c.if-answer-lt1.true refl refl refl
 
-pub returns : goal.returns
-returns c =
-    let a = c.args in
-    listed c.if-answer-lt1.false _ c.list_losses-listed.ensures (ap (set a.answer.now 0) c.number.ensures)
+pub returns-in-Ok : goal.returns-in-Ok
+returns-in-Ok c = listed c.if-answer-lt1.false _ c.in-Ok.ensures refl
+
+pub returns-in-Err : goal.returns-in-Err
+returns-in-Err c = listed c.if-answer-lt1.false _ c.in-Err.ensures (ap (set c.args.answer.now 0) c.number.ensures)

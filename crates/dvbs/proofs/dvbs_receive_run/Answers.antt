@@ -8,7 +8,7 @@ use native.Mathlib.Omega.{arith}
 use borrow.Author.Tests.{lt-ltb, le-ltb}
 use lib.ListN.{set}
 use Rattle.common.specs.Choice.{pick}
-use Rattle.answer.specs.Number.{number_of}
+use Rattle.answer.specs.Number.{answered, given_or}
 use Rattle.receiver.specs.Receive.{fresh_receiver}
 use Rattle.recording.specs.Recording.{AnswersRecording, recording_number}
 use Rattle.dvbs.specs.ReceiveRun.{receive_run_number, untold, refused}
@@ -28,10 +28,10 @@ returns-then-counts-lt64 c =
 pub returns : goal.returns
 returns c =
     let a = c.args in
-    let k = c.receive_run-recorded in
+    let k = c.receive_run in
     let p = c.put_recorded in
     let e : recording_number fresh_receiver a.blocks.now a.output.now ≡ receive_run_number a.blocks.now a.output.now a.counts.now
     = sym (ap (λ (t : Bool). pick t 4 (recording_number fresh_receiver a.blocks.now a.output.now)) (le-ltb _ _ c.if-counts-lt64.false)) in
-    run_exported a.blocks.now [] a.output.now k.new.output a.counts.now p.new.counts a.answer.now p.new.answer _ _ (number_of k.result.answer) k.result.count k.result.receiver c.if-answer-lt1.false
+    run_exported a.blocks.now [] a.output.now k.new.output a.counts.now p.new.counts a.answer.now p.new.answer _ _ c.if-answer-lt1.false k.result
     p.ensures.0 p.ensures.1 p.ensures.2
-    (subst (λ (n : ℕ). AnswersRecording fresh_receiver a.blocks.now [] a.output.now n (number_of k.result.answer) k.result.count k.result.receiver k.new.output) e k.ensures.receives_recording)
+    (subst (λ (n : ℕ). AnswersRecording fresh_receiver a.blocks.now [] a.output.now n (answered k.result) (given_or 0 (λ x. x.count) k.result) (given_or fresh_receiver (λ x. x.receiver) k.result) k.new.output) e k.ensures.receives_recording)

@@ -6,7 +6,7 @@ use Prim.Native.Nat.{ℕ, ◌<◌}
 use native.Mathlib.Omega.{arith}
 use borrow.Author.Tests.{lt-ltb, le-ltb}
 use lib.ListN.{set}
-use Rattle.answer.specs.Number.{number_of}
+use Rattle.answer.specs.Number.{answered, given_or}
 use Rattle.receiver.specs.Receive.{fresh_receiver}
 use Rattle.receiver.proofs.Reached.{sound_range, sound_fresh}
 use Rattle.recording.specs.Recording.{AnswersRecording, marks_for, marked_number}
@@ -34,10 +34,10 @@ pub returns : goal.returns
 returns c =
     let marked : marks_for c.args.blocks.now c.args.marks.now ≡ true = sym c.are_marks_for.ensures ∙ c.if-not-are_marks_for.false in
     let a = c.args in
-    let k = c.receive_marked_run-recorded in
+    let k = c.receive_marked_run in
     let p = c.put_recorded in
     let e : marked_number fresh_receiver a.blocks.now a.marks.now a.output.now ≡ marked_run_number a.blocks.now a.marks.now a.output.now a.counts.now
     = simp (sound_range fresh_receiver sound_fresh, marked, le-ltb _ _ c.if-counts-lt64.false) in
-    run_exported a.blocks.now a.marks.now a.output.now k.new.output a.counts.now p.new.counts a.answer.now p.new.answer _ _ (number_of k.result.answer) k.result.count k.result.receiver c.if-answer-lt1.false
+    run_exported a.blocks.now a.marks.now a.output.now k.new.output a.counts.now p.new.counts a.answer.now p.new.answer _ _ c.if-answer-lt1.false k.result
     p.ensures.0 p.ensures.1 p.ensures.2
-    (subst (λ (n : ℕ). AnswersRecording fresh_receiver a.blocks.now a.marks.now a.output.now n (number_of k.result.answer) k.result.count k.result.receiver k.new.output) e k.ensures)
+    (subst (λ (n : ℕ). AnswersRecording fresh_receiver a.blocks.now a.marks.now a.output.now n (answered k.result) (given_or 0 (λ x. x.count) k.result) (given_or fresh_receiver (λ x. x.receiver) k.result) k.new.output) e k.ensures.receives)

@@ -1,16 +1,15 @@
 -- `dvbs::dvbs_recording_block` meets its contract.
 -- Assumes nothing.
-use mathlib.Core.Path.{◌≡◌, refl, sym, ◌∙◌}
+use mathlib.Core.Path.{◌≡◌, refl, ◌∙◌}
 use mathlib.Core.Bool.{Bool, true, false}
 use mathlib.Core.List.{List, []}
 use Prim.Native.Nat.{ℕ, ◌+◌, min}
 use native.Mathlib.Omega.{arith}
-use borrow.Author.Tests.{eq-eqb, ne_eqb}
 use lib.Dec.{eqb, ltb}
 use Rattle.common.specs.Choice.{pick}
-use Rattle.answer.specs.Number.{number_of}
+use Rattle.answer.specs.Number.{answered}
 use Rattle.recording.specs.Block.{block_count, block_refusal, GivesBlock, block_refused, block_decoded}
-use Rattle.recording.specs.declared.block.DecodedBlock.{DecodedBlock}
+use Rattle.reed_solomon.specs.Decode.{Decoded}
 use Rattle.dvbs.specs.RecordingBlock.{no_count, called}
 use Rattle.dvbs.proofs.dvbs_recording_block.Goals as goal
 
@@ -20,20 +19,16 @@ some-refusal true true e = omega arith
 some-refusal true false e = omega arith
 some-refusal false u e = omega arith
 
-roomless : {bytes exit : List ℕ} {blocks p : ℕ} {r : DecodedBlock} → GivesBlock bytes blocks p [] r exit → number_of r.answer ≡ block_refusal bytes blocks p []
+roomless : {bytes exit : List ℕ} {blocks p : ℕ} {r : Decoded} → GivesBlock bytes blocks p [] r exit → answered r ≡ block_refusal bytes blocks p []
 roomless (block_refused s n c w) = n
-roomless {bytes} {exit} {blocks} {p} (block_decoded left decoded e d n c w) =
+roomless {bytes} {exit} {blocks} {p} (block_decoded left e d w) =
     absurd (some-refusal (eqb blocks (block_count bytes)) (ltb (min blocks 4294967295) (p + 12)) e)
 
 pub returns-then-count-lt2 : goal.returns-then-count-lt2
-returns-then-count-lt2 c = no_count c.if-count-lt2.true (c.number.ensures ∙ roomless c.decoded_block-refused.ensures) refl refl
+returns-then-count-lt2 c = no_count c.if-count-lt2.true (c.put_decoded.ensures.0 ∙ roomless c.decoded_block-refused.ensures) refl refl
 
-pub returns-then-number-eq0 : goal.returns-then-number-eq0
-returns-then-number-eq0 c =
-    let d = c.decoded_block-decoded in
-    called c.if-count-lt2.false d.result d.ensures c.number-number.ensures (sym (simp (eq-eqb _ _ c.if-number-eq0.true)))
-
-pub returns-else-number-eq0 : goal.returns-else-number-eq0
-returns-else-number-eq0 c =
-    let d = c.decoded_block-decoded in
-    called c.if-count-lt2.false d.result d.ensures c.number-number.ensures (sym (simp (ne_eqb _ _ c.if-number-eq0.false)))
+pub returns : goal.returns
+returns c =
+    let d = c.decoded_block in
+    let p = c.put_decoded-2 in
+    called c.if-count-lt2.false d.result d.ensures p.ensures.0 p.ensures.1

@@ -14,6 +14,6 @@ returns-then-count-lt2 c = refused (simp (eq-eqb _ _ c.if-block-ne204.false, lt-
 
 pub returns : goal.returns
 returns c =
-    let d = c.decode-decoded in
+    let d = c.decode in
     decoded (simp (eq-eqb _ _ c.if-block-ne204.false, le-ltb _ _ c.if-count-lt2.false)) d.result d.ensures c.put_decoded.ensures.0
     c.put_decoded.ensures.1

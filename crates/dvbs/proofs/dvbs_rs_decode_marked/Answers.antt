@@ -22,6 +22,6 @@ returns-then-count-lt2 c =
 pub returns : goal.returns
 returns c =
     let marked : are_marks c.args.marks.now ≡ true = sym c.are_marks.ensures ∙ c.if-not-are_marks.false in
-    let d = c.decode_marked-decoded in
+    let d = c.decode_marked in
     decoded (simp (eq-eqb _ _ c.if-block-ne204.false, marked, le-ltb _ _ c.if-count-lt2.false)) d.result d.ensures
     c.put_decoded.ensures.0 c.put_decoded.ensures.1

@@ -10,26 +10,20 @@ use Rattle.state_bytes.proofs.States.{stands_read, none_stands}
 use Rattle.receiver.specs.Receive.{receiver_in_range}
 use Rattle.receiver_state.specs.State.{StandsFor}
 use Rattle.receiver_state.specs.Reading.{state_of}
-use Rattle.dvbs_bridge.specs.Calls.{other_length, unknown, none_read, short, counted}
+use Rattle.dvbs_bridge.specs.Calls.{none_read, short, counted}
 use Rattle.receiver_state.proofs.States.{reads, count_held}
 use Rattle.dvbs_bridge.proofs.dvbs_bridge_count.Goals as goal
 
-pub returns-then-state-ne-STATE_LENGTH : goal.returns-then-state-ne-STATE_LENGTH
-returns-then-state-ne-STATE_LENGTH c = other_length c.if-state-ne-STATE_LENGTH.true c.number.ensures refl
-
-pub returns-then-number-gt7 : goal.returns-then-number-gt7
-returns-then-number-gt7 c = unknown c.if-state-ne-STATE_LENGTH.false c.if-number-gt7.true c.number-then-number-gt7.ensures refl
-
 pub returns-then-not-in_range : goal.returns-then-not-in_range
 returns-then-not-in_range c =
-    let ranged : receiver_in_range (state_of c.args.state.now) ≡ c.in_range.result = ap receiver_in_range (sym c.read_state-receiver.ensures) ∙ sym c.in_range.ensures in
+    let ranged : receiver_in_range (state_of c.args.state.now) ≡ c.in_range.result = ap receiver_in_range (sym c.read_state.ensures) ∙ sym c.in_range.ensures in
     none_read c.if-state-ne-STATE_LENGTH.false c.if-number-gt7.false
     (none_stands reads c.args.state.now (ranged ∙ c.if-not-in_range.true))
     c.number-then-not-in_range.ensures refl
 
 pub returns-then-output-lt8 : goal.returns-then-output-lt8
 returns-then-output-lt8 c =
-    let ranged : receiver_in_range (state_of c.args.state.now) ≡ c.in_range.result = ap receiver_in_range (sym c.read_state-receiver.ensures) ∙ sym c.in_range.ensures in
+    let ranged : receiver_in_range (state_of c.args.state.now) ≡ c.in_range.result = ap receiver_in_range (sym c.read_state.ensures) ∙ sym c.in_range.ensures in
     let standing : let a = c.args in StandsFor a.state.now (state_of a.state.now) = let a = c.args in
     stands_read reads a.state.now c.if-state-ne-STATE_LENGTH.false (λ i. (c.shared_slice_known-1.given i).fits)
     (ranged ∙ c.if-not-in_range.false) in
@@ -37,7 +31,7 @@ returns-then-output-lt8 c =
 
 pub returns : goal.returns
 returns c =
-    let ranged : receiver_in_range (state_of c.args.state.now) ≡ c.in_range.result = ap receiver_in_range (sym c.read_state-receiver.ensures) ∙ sym c.in_range.ensures in
+    let ranged : receiver_in_range (state_of c.args.state.now) ≡ c.in_range.result = ap receiver_in_range (sym c.read_state.ensures) ∙ sym c.in_range.ensures in
     let standing : let a = c.args in StandsFor a.state.now (state_of a.state.now) = let a = c.args in
     stands_read reads a.state.now c.if-state-ne-STATE_LENGTH.false (λ i. (c.shared_slice_known-1.given i).fits)
     (ranged ∙ c.if-not-in_range.false) in

@@ -3,8 +3,7 @@
 use mathlib.Core.Path.{◌≡◌, refl, sym, ap, ◌∙◌}
 use mathlib.Core.Bool.{Bool, true, false}
 use Prim.Native.Nat.{ℕ}
-use native.Mathlib.Omega.{arith}
-use borrow.Author.Tests.{eq-eqb, ne_eqb, lt-ltb, le-ltb}
+use borrow.Author.Tests.{eq-eqb, ne_eqb}
 use Rattle.common.specs.Choice.{pick}
 use Rattle.program_io.specs.Words.{word_bytes, same_bytes}
 use Rattle.rate_words.specs.Words.{mode_named}
@@ -17,37 +16,20 @@ picked u k e f = simp (e, f) refl
 picked-second : {s t u : Bool} (k : ℕ) → s ≡ true → t ≡ false → u ≡ true → pick s (pick t 5 (pick u 6 k)) 7 ≡ 6
 picked-second k e f g = simp (e, f, g) refl
 
-picked_last : {s t u : Bool} (k : ℕ) → s ≡ true → t ≡ false → u ≡ false → pick s (pick t 5 (pick u 6 k)) 7 ≡ k
-picked_last k e f g = simp (e, f, g) refl
-
 pub returns-then-count-ne1 : goal.returns-then-count-ne1
 returns-then-count-ne1 c =
     let n = c.count.ensures in
     let w = word_bytes c.args.word in
-    sym (ap (λ (t : Bool). pick t (pick (same_bytes w any_word) 5 (pick (same_bytes w bits_word) 6 (rate_of (mode_named w)))) 7) (ne_eqb _ 1 (λ e. c.if-count-ne1.true (n ∙ e))))
+    ap (λ (t : Bool). pick t (pick (same_bytes w any_word) 5 (pick (same_bytes w bits_word) 6 (rate_of (mode_named w)))) 7) (ne_eqb _ 1 (λ e. c.if-count-ne1.true (n ∙ e)))
 
 pub returns-then-is : goal.returns-then-is
 returns-then-is c =
     let n = c.count.ensures in
     let w = word_bytes c.args.word in
-    sym (picked (same_bytes w bits_word) (rate_of (mode_named w)) (eq-eqb _ 1 (sym n ∙ c.if-count-ne1.false)) (sym c.is.ensures ∙ c.if-is.true))
+    picked (same_bytes w bits_word) (rate_of (mode_named w)) (eq-eqb _ 1 (sym n ∙ c.if-count-ne1.false)) (sym c.is.ensures ∙ c.if-is.true)
 
 pub returns-then-is-2 : goal.returns-then-is-2
 returns-then-is-2 c =
     let n = c.count.ensures in
     let w = word_bytes c.args.word in
-    sym (picked-second (rate_of (mode_named w)) (eq-eqb _ 1 (sym n ∙ c.if-count-ne1.false)) (sym c.is.ensures ∙ c.if-is.false) (sym c.is-2.ensures ∙ c.if-is-2.true))
-
-pub returns-then-mode-lt5 : goal.returns-then-mode-lt5
-returns-then-mode-lt5 c =
-    let n = c.count.ensures in
-    let m = c.mode_of-mode.ensures in
-    m ∙ sym (picked_last (rate_of (mode_named (word_bytes c.args.word))) (eq-eqb _ 1 (sym n ∙ c.if-count-ne1.false)) (sym c.is.ensures ∙ c.if-is.false) (sym c.is-2.ensures ∙ c.if-is-2.false)
-    ∙ ap (λ (t : Bool). pick t (mode_named (word_bytes c.args.word)) 7) (lt-ltb (mode_named (word_bytes c.args.word)) 5 (omega (arith, c.if-mode-lt5.true, m))))
-
-pub returns : goal.returns
-returns c =
-    let n = c.count.ensures in
-    let m = c.mode_of-mode.ensures in
-    sym (picked_last (rate_of (mode_named (word_bytes c.args.word))) (eq-eqb _ 1 (sym n ∙ c.if-count-ne1.false)) (sym c.is.ensures ∙ c.if-is.false) (sym c.is-2.ensures ∙ c.if-is-2.false)
-    ∙ ap (λ (t : Bool). pick t (mode_named (word_bytes c.args.word)) 7) (le-ltb (mode_named (word_bytes c.args.word)) 5 (omega (arith, c.if-mode-lt5.false, m))))
+    picked-second (rate_of (mode_named w)) (eq-eqb _ 1 (sym n ∙ c.if-count-ne1.false)) (sym c.is.ensures ∙ c.if-is.false) (sym c.is-2.ensures ∙ c.if-is-2.true)

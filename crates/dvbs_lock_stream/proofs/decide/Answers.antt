@@ -11,23 +11,23 @@ use Rattle.dvbs_lock_stream.proofs.decide.Goals as goal
 
 pub slice_bounds-soft_pairs-end : goal.slice_bounds-soft_pairs-end
 slice_bounds-soft_pairs-end c =
-    let few : (c.least-some.result ≡ min 1632 (length c.args.i.now)) × (c.least-some.result ≤ length c.args.i.now) × (c.least-some.result ≤ 1632) = (c.least-some.ensures, omega (arith, c.least-some.ensures), omega (arith, c.least-some.ensures)) in
+    let few : (c.min-some.result ≡ min 1632 (length c.args.i.now)) × (c.min-some.result ≤ length c.args.i.now) × (c.min-some.result ≤ 1632) = (omega (arith, c.min-some.ensures), omega (arith, c.min-some.ensures), omega (arith, c.min-some.ensures)) in
     sym (length-take-le _ _ (few).1)
 
 pub slice_bounds-soft_pairs-end-2 : goal.slice_bounds-soft_pairs-end-2
 slice_bounds-soft_pairs-end-2 c =
-    let few : (c.least-some.result ≡ min 1632 (length c.args.i.now)) × (c.least-some.result ≤ length c.args.i.now) × (c.least-some.result ≤ 1632) = (c.least-some.ensures, omega (arith, c.least-some.ensures), omega (arith, c.least-some.ensures)) in
+    let few : (c.min-some.result ≡ min 1632 (length c.args.i.now)) × (c.min-some.result ≤ length c.args.i.now) × (c.min-some.result ≤ 1632) = (omega (arith, c.min-some.ensures), omega (arith, c.min-some.ensures), omega (arith, c.min-some.ensures)) in
     sym (length-take-le _ _ (omega (arith, (few).1, c.requires.0)))
 
 pub slice_bounds-soft_pairs-end-3 : goal.slice_bounds-soft_pairs-end-3
 slice_bounds-soft_pairs-end-3 c =
-    let few : (c.least-some.result ≡ min 1632 (length c.args.i.now)) × (c.least-some.result ≤ length c.args.i.now) × (c.least-some.result ≤ 1632) = (c.least-some.ensures, omega (arith, c.least-some.ensures), omega (arith, c.least-some.ensures)) in
+    let few : (c.min-some.result ≡ min 1632 (length c.args.i.now)) × (c.min-some.result ≤ length c.args.i.now) × (c.min-some.result ≤ 1632) = (omega (arith, c.min-some.ensures), omega (arith, c.min-some.ensures), omega (arith, c.min-some.ensures)) in
     sym (length-take-le _ _ (omega (arith, (few).1, c.requires.1)))
 
 pub soft_pairs-requires : goal.soft_pairs-requires
 soft_pairs-requires c =
-    let few : (c.least-some.result ≡ min 1632 (length c.args.i.now)) × (c.least-some.result ≤ length c.args.i.now) × (c.least-some.result ≤ 1632) = (c.least-some.ensures, omega (arith, c.least-some.ensures), omega (arith, c.least-some.ensures)) in
-    let n = c.least-some.result in
+    let few : (c.min-some.result ≡ min 1632 (length c.args.i.now)) × (c.min-some.result ≤ length c.args.i.now) × (c.min-some.result ≤ 1632) = (omega (arith, c.min-some.ensures), omega (arith, c.min-some.ensures), omega (arith, c.min-some.ensures)) in
+    let n = c.min-some.result in
     let f = few in
     let i = length-take-le n c.args.i.now f.1 in
     let q = length-take-le n c.args.q.now (omega (arith, f.1, c.requires.0)) in
@@ -36,8 +36,8 @@ soft_pairs-requires c =
 
 pub returns : goal.returns
 returns c =
-    let few : (c.least-some.result ≡ min 1632 (length c.args.i.now)) × (c.least-some.result ≤ length c.args.i.now) × (c.least-some.result ≤ 1632) = (c.least-some.ensures, omega (arith, c.least-some.ensures), omega (arith, c.least-some.ensures)) in
-    let n = c.least-some.result in
+    let few : (c.min-some.result ≡ min 1632 (length c.args.i.now)) × (c.min-some.result ≤ length c.args.i.now) × (c.min-some.result ≤ 1632) = (omega (arith, c.min-some.ensures), omega (arith, c.min-some.ensures), omega (arith, c.min-some.ensures)) in
+    let n = c.min-some.result in
     let f = few in
     let o : OneLength c.args.i.now c.args.q.now c.args.lost.now = record { qs_size = c.requires.0; lost_size = c.requires.1 } in
     let pairs = c.soft_pairs.new.output in

@@ -26,14 +26,14 @@ pub returns-then-number-ne0 : goal.returns-then-number-ne0
 returns-then-number-ne0 c =
     let tested : in_range (state_of c.args.state.now) ≡ c.is_in_range.result = ap in_range (sym c.read_state-before.ensures.0) ∙ sym c.is_in_range.ensures in
     let clear : in_range (state_of c.args.state.now) ≡ true = tested ∙ c.if-not-is_in_range.false in
-    let due : c.number-number.result ≡ end_due (short_room (length c.args.packets.now) (length c.args.text.now) (length c.args.counts.now)) = c.number-number.ensures ∙ c.end_due-due.ensures ∙ ap end_due c.is_short-short.ensures in
+    let due : c.answered-number.result ≡ end_due (short_room (length c.args.packets.now) (length c.args.text.now) (length c.args.counts.now)) = c.answered-number.ensures ∙ c.end_due-due.ensures ∙ ap end_due c.is_short-short.ensures in
     refused_ends c.args.state.now c.args.answer.now c.if-answer-lt1.false c.if-state-ne-STATE_LENGTH.false (λ i. (c.slice_known-1.given i).fits) (clear)
-    c.args.packets.now c.args.text.now c.args.counts.now c.number-number.result (set c.args.answer.now 0 c.number-number.result) refl
+    c.args.packets.now c.args.text.now c.args.counts.now c.answered-number.result (set c.args.answer.now 0 c.answered-number.result) refl
     c.args.rest (due) c.if-number-ne0.true
 
 pub step_end-requires : goal.step_end-requires
 step_end-requires c =
-    let due : c.number-number.result ≡ end_due (short_room (length c.args.packets.now) (length c.args.text.now) (length c.args.counts.now)) = c.number-number.ensures ∙ c.end_due-due.ensures ∙ ap end_due c.is_short-short.ensures in
+    let due : c.answered-number.result ≡ end_due (short_room (length c.args.packets.now) (length c.args.text.now) (length c.args.counts.now)) = c.answered-number.ensures ∙ c.end_due-due.ensures ∙ ap end_due c.is_short-short.ensures in
     let r = c.read_state-before in
     (r.ensures.1, sym c.is_in_range.ensures ∙ c.if-not-is_in_range.false, c.if-state-ne-STATE_LENGTH.false, sym (due) ∙ c.if-number-ne0.false)
 
@@ -41,9 +41,9 @@ pub returns : goal.returns
 returns c =
     let tested : in_range (state_of c.args.state.now) ≡ c.is_in_range.result = ap in_range (sym c.read_state-before.ensures.0) ∙ sym c.is_in_range.ensures in
     let clear : in_range (state_of c.args.state.now) ≡ true = tested ∙ c.if-not-is_in_range.false in
-    let due : c.number-number.result ≡ end_due (short_room (length c.args.packets.now) (length c.args.text.now) (length c.args.counts.now)) = c.number-number.ensures ∙ c.end_due-due.ensures ∙ ap end_due c.is_short-short.ensures in
+    let due : c.answered-number.result ≡ end_due (short_room (length c.args.packets.now) (length c.args.text.now) (length c.args.counts.now)) = c.answered-number.ensures ∙ c.end_due-due.ensures ∙ ap end_due c.is_short-short.ensures in
     let p = c.step_end in
     let l = subst (λ (t : LockStream). LeavesEnd c.args.rest t c.args.packets.now c.args.text.now c.args.counts.now p.result p.new.state p.new.packets p.new.text p.new.counts) c.read_state-before.ensures.0 p.ensures in
     stepped_end c.args.state.now c.args.answer.now c.if-answer-lt1.false c.if-state-ne-STATE_LENGTH.false (λ i. (c.slice_known-1.given i).fits) (clear)
-    c.args.packets.now c.args.text.now c.args.counts.now c.number-number.result (set c.args.answer.now 0 c.number-number.result) refl
+    c.args.packets.now c.args.text.now c.args.counts.now c.answered-number.result (set c.args.answer.now 0 c.answered-number.result) refl
     c.args.rest (due) c.if-number-ne0.false p.result p.new.state p.new.packets p.new.text p.new.counts l

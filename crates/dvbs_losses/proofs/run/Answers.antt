@@ -33,12 +33,6 @@ returns-then-failed c =
     let l : length f.new.buffer ≡ 204 = search rules in
     running_stops c.loop-blocks.invariant f.ensures refl l (omega (arith, c.if-size-lt204.false)) c.turn-turned.ensures c.if-failed.true _ refl refl refl refl refl
 
-pub overflow_add-blocks : goal.overflow_add-blocks
-overflow_add-blocks c = omega (arith, c.loop-blocks-test.true)
-
-pub loop-blocks-smaller : goal.loop-blocks-smaller
-loop-blocks-smaller c = omega (arith, c.loop-blocks-test.true)
-
 pub loop-blocks-preserved : goal.loop-blocks-preserved
 loop-blocks-preserved c =
     let f = c.fill-filled in

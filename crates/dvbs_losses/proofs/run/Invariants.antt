@@ -1,11 +1,7 @@
 -- `dvbs_losses::run` meets its contract.
 -- Assumes nothing.
-use Prim.Native.Nat.{◌-◌}
 use Rattle.dvbs_losses.proofs.Turning.{Running}
 use Rattle.dvbs_losses.proofs.run.Given as goal
 
 abbrev pub invariant-loop-blocks : goal.invariant-loop-blocks
 invariant-loop-blocks l = Running l.initial.own l.input l.own l.output l.errors l.stream l.blocks
-
-abbrev pub decreases-loop-blocks : goal.decreases-loop-blocks
-decreases-loop-blocks l = 4294967295 - l.blocks

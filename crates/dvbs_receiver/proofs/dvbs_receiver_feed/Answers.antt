@@ -5,6 +5,7 @@ use mathlib.Core.Bool.{true, false}
 use native.Mathlib.Omega.{arith}
 use lib.Dec.{ltb}
 use lib.ListN.{set}
+use Rattle.answer.proofs.Positive.{number_positive}
 use Rattle.common.specs.Choice.{pick}
 use Rattle.state_bytes.specs.Calls.{no_answer, wrong_length}
 use Rattle.answer.specs.Number.{number_of}
@@ -28,38 +29,37 @@ returns-then-not-is_clear c =
     unclear a.state.now a.answer.now c.if-answer-lt1.false c.if-state-ne-STATE_LENGTH.false
     (set a.answer.now 0 c.number-then-not-is_clear.result) (tested ∙ c.if-not-is_clear.true) (refl, refl) (ap (set a.answer.now 0) c.number-then-not-is_clear.ensures)
 
-pub returns-then-number-ne0 : goal.returns-then-number-ne0
-returns-then-number-ne0 c =
+pub returns-in-Err : goal.returns-in-Err
+returns-in-Err c =
     let tested : let i = state_of c.args.state.now in pick (ltb i.held 204) (is_clear i) false ≡ c.is_clear.result = ap (λ (i : ReceiverStream). pick (ltb i.held 204) (is_clear i) false) (sym c.read_state-before.ensures) ∙ sym c.is_clear.ensures in
     let clear : let i = state_of c.args.state.now in pick (ltb i.held 204) (is_clear i) false ≡ true = tested ∙ c.if-not-is_clear.false in
     let a = c.args in
-    let feed = c.feed-fed in
-    let exit = feed.new.output in
+    let e = c.in-Err in
+    let exit = c.feed.new.output in
     refused_feeds a.state.now a.answer.now c.if-answer-lt1.false c.if-state-ne-STATE_LENGTH.false (λ i. (c.slice_known-1.given i).fits) (clear)
-    a.piece.now a.marks.now a.output.now (number_of feed.result.answer) feed.result.count feed.result.stream exit
-    (set a.answer.now 0 c.number-number.result)
-    (subst (λ (i : ReceiverStream). FeedsReceiver i a.piece.now a.marks.now a.output.now (number_of feed.result.answer) feed.result.count feed.result.stream exit)
-    c.read_state-before.ensures feed.ensures)
-    (ap (set a.answer.now 0) c.number-number.ensures) (λ z. c.if-number-ne0.true (c.number-number.ensures ∙ z))
+    a.piece.now a.marks.now a.output.now (number_of e.refusal) 0 c.read_state-before.result exit
+    (set a.answer.now 0 c.number-in-Err.result)
+    (subst (λ (i : ReceiverStream). FeedsReceiver i a.piece.now a.marks.now a.output.now (number_of e.refusal) 0 c.read_state-before.result exit)
+    c.read_state-before.ensures e.ensures)
+    (ap (set a.answer.now 0) c.number-in-Err.ensures) (λ z. omega (arith, number_positive e.refusal, z))
 
 pub write_state-requires : goal.write_state-requires
 write_state-requires c =
     let a = c.args in
-    let feed = c.feed-fed in
-    let few = held_few c.read_state-before.result a.piece.now a.marks.now a.output.now (number_of feed.result.answer) feed.result.count feed.result.stream feed.new.output
-    feed.ensures (sym c.number-number.ensures ∙ c.if-number-ne0.false) in
+    let f = c.in-Ok in
+    let few = held_few c.read_state-before.result a.piece.now a.marks.now a.output.now 0 f.fed.count f.fed.stream c.feed.new.output f.ensures refl in
     (omega (arith, few), c.if-state-ne-STATE_LENGTH.false)
 
-pub returns : goal.returns
-returns c =
+pub returns-in-Ok : goal.returns-in-Ok
+returns-in-Ok c =
     let tested : let i = state_of c.args.state.now in pick (ltb i.held 204) (is_clear i) false ≡ c.is_clear.result = ap (λ (i : ReceiverStream). pick (ltb i.held 204) (is_clear i) false) (sym c.read_state-before.ensures) ∙ sym c.is_clear.ensures in
     let clear : let i = state_of c.args.state.now in pick (ltb i.held 204) (is_clear i) false ≡ true = tested ∙ c.if-not-is_clear.false in
     let a = c.args in
-    let feed = c.feed-fed in
-    let exit = feed.new.output in
+    let f = c.in-Ok in
+    let exit = c.feed.new.output in
     taken_feeds a.state.now a.answer.now c.if-answer-lt1.false c.if-state-ne-STATE_LENGTH.false (λ i. (c.slice_known-1.given i).fits) (clear)
-    a.piece.now a.marks.now a.output.now (number_of feed.result.answer) feed.result.count feed.result.stream exit
-    (set a.answer.now 0 c.number-number.result)
-    (subst (λ (i : ReceiverStream). FeedsReceiver i a.piece.now a.marks.now a.output.now (number_of feed.result.answer) feed.result.count feed.result.stream exit)
-    c.read_state-before.ensures feed.ensures)
-    (ap (set a.answer.now 0) c.number-number.ensures) (sym c.number-number.ensures ∙ c.if-number-ne0.false) c.write_state.new.bytes c.write_state.ensures
+    a.piece.now a.marks.now a.output.now 0 f.fed.count f.fed.stream exit
+    (set a.answer.now 0 0)
+    (subst (λ (i : ReceiverStream). FeedsReceiver i a.piece.now a.marks.now a.output.now 0 f.fed.count f.fed.stream exit)
+    c.read_state-before.ensures f.ensures)
+    refl refl c.write_state.new.bytes c.write_state.ensures

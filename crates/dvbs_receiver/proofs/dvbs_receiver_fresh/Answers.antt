@@ -15,7 +15,7 @@ returns-then-state-ne-STATE_LENGTH c = simp (ne_eqb _ _ c.if-state-ne-STATE_LENG
 pub write_state-requires : goal.write_state-requires
 unfolding fresh_receiver_stream
 write_state-requires c =
-    (subst (λ (i : ReceiverStream). i.held < 256) (sym c.new-stream.ensures) (omega arith), c.if-state-ne-STATE_LENGTH.false)
+    (subst (λ (i : ReceiverStream). i.held < 256) (sym c.new.ensures) (omega arith), c.if-state-ne-STATE_LENGTH.false)
 
 pub returns : goal.returns
-returns c = simp (eq-eqb _ _ c.if-state-ne-STATE_LENGTH.false) (refl, c.write_state.ensures ∙ ap state_bytes c.new-stream.ensures)
+returns c = simp (eq-eqb _ _ c.if-state-ne-STATE_LENGTH.false) (refl, c.write_state.ensures ∙ ap state_bytes c.new.ensures)

@@ -27,14 +27,24 @@ returns-then-not-is_clear c =
     unclear a.state.now a.answer.now c.if-answer-lt1.false c.if-state-ne-STATE_LENGTH.false
     (set a.answer.now 0 c.number-then-not-is_clear.result) (tested ∙ c.if-not-is_clear.true) (refl, refl) (ap (set a.answer.now 0) c.number-then-not-is_clear.ensures)
 
-pub returns : goal.returns
-returns c =
+pub returns-in-Ok : goal.returns-in-Ok
+returns-in-Ok c =
     let tested : let i = state_of c.args.state.now in pick (ltb i.held 204) (is_clear i) false ≡ c.is_clear.result = ap (λ (i : ReceiverStream). pick (ltb i.held 204) (is_clear i) false) (sym c.read_state-stream.ensures) ∙ sym c.is_clear.ensures in
     let a = c.args in
-    let report = c.report-written in
-    let exit = report.new.output in
+    let exit = c.report.new.output in
     reports_state a.state.now a.answer.now c.if-answer-lt1.false c.if-state-ne-STATE_LENGTH.false (λ i. (c.shared_slice_known-1.given i).fits)
-    (tested ∙ c.if-not-is_clear.false) a.output.now (number_of report.result.answer) report.result.length exit
-    (set a.answer.now 0 c.number-2.result)
-    (subst (λ (i : ReceiverStream). Reports i a.output.now (number_of report.result.answer) report.result.length exit) c.read_state-stream.ensures report.ensures)
-    (ap (set a.answer.now 0) c.number-2.ensures)
+    (tested ∙ c.if-not-is_clear.false) a.output.now 0 c.in-Ok.length exit
+    (set a.answer.now 0 0)
+    (subst (λ (i : ReceiverStream). Reports i a.output.now 0 c.in-Ok.length exit) c.read_state-stream.ensures c.in-Ok.ensures)
+    refl
+
+pub returns-in-Err : goal.returns-in-Err
+returns-in-Err c =
+    let tested : let i = state_of c.args.state.now in pick (ltb i.held 204) (is_clear i) false ≡ c.is_clear.result = ap (λ (i : ReceiverStream). pick (ltb i.held 204) (is_clear i) false) (sym c.read_state-stream.ensures) ∙ sym c.is_clear.ensures in
+    let a = c.args in
+    let exit = c.report.new.output in
+    reports_state a.state.now a.answer.now c.if-answer-lt1.false c.if-state-ne-STATE_LENGTH.false (λ i. (c.shared_slice_known-1.given i).fits)
+    (tested ∙ c.if-not-is_clear.false) a.output.now (number_of c.in-Err.refusal) 0 exit
+    (set a.answer.now 0 c.number-in-Err.result)
+    (subst (λ (i : ReceiverStream). Reports i a.output.now (number_of c.in-Err.refusal) 0 exit) c.read_state-stream.ensures c.in-Err.ensures)
+    (ap (set a.answer.now 0) c.number-in-Err.ensures)

@@ -12,7 +12,7 @@ use Rattle.dvbs_send.proofs.send_all.Goals as goal
 
 pub loop-came-init : goal.loop-came-init
 loop-came-init c =
-    (going_none c.requires.1 (sent_none c.args.mode c.requires.0 c.new-begun.ensures.1 c.requires.2 c.requires.3), refl, refl, refl, refl)
+    (going_none c.requires.1 (sent_none c.args.mode c.requires.0 c.fresh-stream.ensures c.requires.2 c.requires.3), refl, refl, refl, refl)
 
 pub read-read-requires : goal.read-read-requires
 read-read-requires c = omega (arith, c.loop-came.invariant.2)

@@ -17,17 +17,8 @@ loop-i-init c = let a = c.args in telling_none a.first a.answers.now a.errors
 pub overflow_add-first : goal.overflow_add-first
 overflow_add-first c = let p = c.requires in record { fits = omega (arith, p, c.loop-i-test.true) }
 
-pub bounds-answers-i : goal.bounds-answers-i
-bounds-answers-i c = c.loop-i-test.true
-
 pub tell_answer-next-requires : goal.tell_answer-next-requires
 tell_answer-next-requires c = let p = c.requires in let f = telling_few c.loop-i.invariant in omega (arith, p, f, c.loop-i-test.true)
-
-pub overflow_add-i : goal.overflow_add-i
-overflow_add-i c = omega (arith, c.loop-i-test.true)
-
-pub loop-i-smaller : goal.loop-i-smaller
-loop-i-smaller c = omega (arith, c.loop-i-test.true)
 
 pub loop-i-preserved : goal.loop-i-preserved
 loop-i-preserved c = let t = c.tell_answer-next.ensures in telling_more c.loop-i.invariant c.loop-i-test.true t.0 t.1

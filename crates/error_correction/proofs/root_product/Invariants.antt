@@ -1,12 +1,7 @@
 -- `error_correction::root_product` meets its contract: p is the product over the places from l on.
 -- Assumes nothing.
-use Prim.Native.Nat.{◌≤◌}
-use lib.ListN.{take}
 use Rattle.error_correction.proofs.ErrorValues.{Multiplied}
 use Rattle.error_correction.proofs.root_product.Given as goal
 
 abbrev pub invariant-loop-l : goal.invariant-loop-l
-invariant-loop-l l = (l.l ≤ l.count) × Multiplied (take l.count l.places) l.p l.l
-
-abbrev pub decreases-loop-l : goal.decreases-loop-l
-decreases-loop-l l = l.l
+invariant-loop-l l = Multiplied l.places l.p l.l

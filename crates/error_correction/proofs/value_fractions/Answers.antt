@@ -11,7 +11,7 @@ use Rattle.algebra.specs.Polynomial.{plus}
 use Rattle.galois.specs.Field256.{numbers}
 use Rattle.galois.specs.Lanes.{horner_step}
 use Rattle.error_correction.specs.Correction.{monic}
-use Rattle.error_correction.proofs.ErrorValues.{lanes_none, lanes_more, lanes_all}
+use Rattle.error_correction.proofs.ErrorValues.{lanes_none, lanes_more}
 use borrow.Author.Rules.{rules}
 use Rattle.error_correction.proofs.value_fractions.Goals as goal
 
@@ -32,7 +32,6 @@ module _ (p : List ℕ) (n : ℕ) (l : length p ≡ 16) (h : n ≤ 16) where
 pub loop-k-init : goal.loop-k-init
 loop-k-init c =
     let n = c.well_formed.0.1.0.1 in (
-      search rules,
       monic-top c.args.p c.args.degree n c.requires,
       lanes_none (monic c.args.degree c.args.p) c.args.s c.args.places c.args.degree (monic_length c.args.p c.args.degree n c.requires) c.well_formed.1.1.1.0.1.0.1,
     )
@@ -44,15 +43,8 @@ loop-k-preserved c =
     let a = c.args in
     let n = c.well_formed.0.1.0.1 in
     let z = monic_length a.p a.degree n c.requires in (
-      search rules,
       monic-at a.p a.degree n c.requires (l.k - 1) (omega arith),
-      lanes_more (monic a.degree a.p) a.s a.places a.degree z c.well_formed.1.1.1.0.1.0.1 l.coefficients l.numerators l.denominators l.k (search rules) l.invariant.2 _ _ _ _ _
-          (c.sum-c.ensures ∙ ap₂ (λ (b : List ℕ) (x : ℕ). plus numbers b (replicate 16 x)) c.products.ensures l.invariant.1)
+      lanes_more (monic a.degree a.p) a.s a.places a.degree z c.well_formed.1.1.1.0.1.0.1 l.coefficients l.numerators l.denominators l.k (search rules) l.invariant.1 _ _ _ _ _
+          (c.sum-c.ensures ∙ ap₂ (λ (b : List ℕ) (x : ℕ). plus numbers b (replicate 16 x)) c.products.ensures l.invariant.0)
           c.scale.ensures c.sum-n.ensures c.products-in-loop-k.ensures c.sum-d.ensures,
     )
-
-pub returns : goal.returns
-returns c =
-    let l = c.loop-k in
-    let a = c.args in
-    lanes_all (monic a.degree a.p) a.s a.places a.degree (monic_length a.p a.degree c.well_formed.0.1.0.1 c.requires) c.well_formed.1.1.1.0.1.0.1 _ _ _ l.k (search rules) l.invariant.2

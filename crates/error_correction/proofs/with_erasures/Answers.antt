@@ -1,13 +1,11 @@
 -- `error_correction::with_erasures` meets its contract.
 -- Assumes nothing.
-use mathlib.Core.Path.{sym, ap, ◌∙◌, subst}
-use mathlib.Core.List.{List}
-use Prim.Native.Nat.{ℕ, ◌+◌}
+use mathlib.Core.Path.{sym, ap, ◌∙◌}
+use Prim.Native.Nat.{◌+◌}
 use borrow.Author.Tests.{eq-eqb}
 use lib.ListN.{get_or, take, drop}
 use lib.Seq.{get_or-take, get_or-drop}
 use Rattle.common.specs.Choice.{pick}
-use Rattle.error_correction.specs.Correction.{Masked}
 use Rattle.error_correction.proofs.with_erasures.Goals as goal
 
 pub returns-then-f-eq0 : goal.returns-then-f-eq0
@@ -19,6 +17,3 @@ returns-then-f-eq0 c =
           sym (ap (λ b. pick b (get_or c.args.v j 0) 0)
           (eq-eqb (get_or (take 16 (drop i u)) j 0) 0 (get_or-take 16 (drop i u) j 0 h ∙ get_or-drop i u j 0 ∙ (c.requires.1 c.if-f-eq0.true).each (i + j))));
     }
-
-pub returns : goal.returns
-returns c = subst (λ (m : List ℕ). Masked m c.args.v c.masked_values.result) c.sixteen.ensures c.masked_values.ensures

@@ -1,11 +1,7 @@
 -- `error_locator::clear` meets its contract: the rows below i are cleared in column k.
 -- Assumes nothing.
-use Prim.Native.Nat.{◌-◌}
 use Rattle.error_locator.specs.Locator.{Cleared}
 use Rattle.error_locator.proofs.clear.Given as goal
 
 abbrev pub invariant-loop-i : goal.invariant-loop-i
 invariant-loop-i l = Cleared l.initial.m l.m l.size l.k l.i
-
-abbrev pub decreases-loop-i : goal.decreases-loop-i
-decreases-loop-i l = l.size - l.i

@@ -1,26 +1,19 @@
--- `error_locator::lowered` meets its contract: the first j bytes are moved.
+-- `error_locator::lowered` meets its contract.
 -- Assumes nothing.
-use mathlib.Core.Path.{◌≡◌, refl, sym, ◌∙◌}
-use Prim.Native.Nat.{ℕ, ◌+◌, ◌<◌}
-use native.Mathlib.Omega.{arith}
-use native.Mathlib.Decide.{dec_lt}
-use lib.ListN.{get_or, get_or-eq_default}
-use Rattle.common.proofs.Lists.{zeros_at}
-use Rattle.common.proofs.Each.{updated_none, updated_more}
-use borrow.Author.Rules.{rules}
+use Rattle.std.proofs.Common.{◌≡◌, refl, ap, ◌∙◌, arith, length-drop, ℕ, zero, suc, List, [], ◌∷◌, ◌++◌, get_or, drop}
+use Rattle.std.proofs.Math.Seq.{get_or-drop, take_all}
+use Rattle.std.proofs.Math.Nat.{add_comm}
 use Rattle.error_locator.proofs.lowered.Goals as goal
 
-pub loop-j-init : goal.loop-j-init
-loop-j-init c = (search rules, updated_none)
-
-pub loop-j-preserved : goal.loop-j-preserved
-loop-j-preserved c = (search rules, updated_more _ (omega arith) refl c.loop-j.invariant.1)
+-- a zero at the end is read as what is past it
+ended : (l : List ℕ) (j : ℕ) → get_or (l ++ 0 ∷ []) j 0 ≡ get_or l j 0
+ended [] zero = refl
+ended [] (suc j) = refl
+ended (x ∷ l) zero = refl
+ended (x ∷ l) (suc j) = ended l j
 
 pub returns : goal.returns
-returns c = record { each = λ j. go j (dec_lt j 15) }
-  where
-    go : (j : ℕ) → Dec (j < 15) → get_or c.loop-j.r j 0 ≡ get_or c.args.s (j + 1) 0
-    go j (yes h) = c.loop-j.invariant.1.done j (omega arith)
-    go j (no h) =
-        c.loop-j.invariant.1.todo j (omega arith) ∙ zeros_at 16 j
-        ∙ sym (get_or-eq_default c.args.s 0 {n = j + 1} (omega (arith, c.well_formed.0.1.0.1)))
+returns c =
+    let s = c.args.s in
+    let e : c.copy_from_slice.new.self ≡ drop 1 s = c.copy_from_slice.ensures.after ∙ take_all 15 (drop 1 s) (omega (arith, length-drop 1 s)) in
+    record { each = λ j. ended c.copy_from_slice.new.self j ∙ ap (λ (l : List ℕ). get_or l j 0) e ∙ get_or-drop 1 s j 0 ∙ ap (λ (k : ℕ). get_or s k 0) (add_comm 1 j) }

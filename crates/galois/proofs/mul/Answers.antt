@@ -9,7 +9,6 @@ use lib.Pow.{shr-shr}
 use Rattle.common.proofs.Xor.{xor_assoc}
 use Rattle.galois.specs.Field256.{times_x, rounds, mul}
 use Rattle.galois.proofs.Laws.{rounds_times_x}
-use borrow.Author.Rules.{rules}
 use Rattle.galois.proofs.mul.Goals as goal
 
 -- before the first round
@@ -37,14 +36,14 @@ done i b r x v h e =
     sym (xor_zero_r r) ∙ ap (λ (n : ℕ). bit_xor r (rounds n x (b / 2 ^ i))) (sym z) ∙ e
 
 pub loop-i-init : goal.loop-i-init
-loop-i-init c = (search rules, omega arith, whole c.args.a c.args.b (omega arith))
+loop-i-init c = (omega arith, whole c.args.a c.args.b (omega arith))
 
 pub loop-i-preserved : goal.loop-i-preserved
 loop-i-preserved c =
     let l = c.loop-i in
-    (search rules, omega arith, round l.i c.args.b l.r l.x _ _ (search rules) l.invariant.2 c.times_x-x.ensures)
+    (omega arith, round l.i c.args.b l.r l.x _ _ (omega arith) l.invariant.1 c.times_x-x.ensures)
 
 pub returns : goal.returns
 returns c =
     let l = c.loop-i in
-    done l.i c.args.b l.r l.x _ (omega arith) l.invariant.2
+    done l.i c.args.b l.r l.x _ (omega arith) l.invariant.1

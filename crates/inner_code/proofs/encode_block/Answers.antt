@@ -13,5 +13,5 @@ use Rattle.inner_code.proofs.encode_block.Goals as goal
 pub encode_grouped-requires : goal.encode_grouped-requires
 encode_grouped-requires c =
     let p = c.requires in
-    let five : c.args.coder.rate ≡ 5 = omega (arith, rate_known c.args.coder p.range, c.if-rate-lt-QPSK_MODES.false) in
+    let five : c.args.coder.rate ≡ 5 = omega (arith, rate_known c.args.coder p.range, c.if-coder-lt-QPSK_MODES.false) in
     (p, subst (λ (r : ℕ). Grouped (mode_of r) qam) (sym five) grouped_qam)

@@ -1,6 +1,6 @@
 -- `inner_code::encode_grouped` meets its contract.
 -- Assumes nothing.
-use mathlib.Core.Path.{refl, ap₂, sym, ◌∙◌}
+use mathlib.Core.Path.{ap₂, sym, ◌∙◌}
 use mathlib.Core.List.{List, ◌++◌}
 use Prim.Native.Nat.{ℕ}
 use lib.ListN.{drop}
@@ -13,7 +13,7 @@ code_grouped-next-requires c =
     let e = c.requires.0 in
     let d = c.requires.1 in
     let count = grouped_count d (formed c.args.coder e.range) c.args.coder e.range c.args.block.now e.size in
-    (e.range.memory, d.fits, e.size, rw count at e.enough)
+    (e.range.memory, d.fits, rw count at e.enough)
 
 pub returns : goal.returns
 returns c =
@@ -25,7 +25,6 @@ returns c =
     let r = c.code_grouped-next.ensures in
     let count = grouped_count d w coder e.range block e.size in
     record {
-      number = refl;
       coder = (λ i. record { rate = coder.rate; memory = r.0 i; place = 0; held = 0 }) ∙ grouped_after d w coder e.range block e.size;
       count = sym count;
       written = r.1 ∙ ap₂ (λ (s : List ℕ) (k : ℕ). s ++ drop k c.args.output.now) (grouped_symbols d w coder e.range block e.size) (sym count);

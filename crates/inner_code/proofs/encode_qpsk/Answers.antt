@@ -1,10 +1,9 @@
 -- `inner_code::encode_qpsk` meets its contract.
 -- Assumes nothing.
-use mathlib.Core.Path.{refl, ap, sym, ◌∙◌}
+use mathlib.Core.Path.{ap, sym, ◌∙◌}
 use mathlib.Core.List.{List, ◌++◌}
 use Prim.Native.Nat.{ℕ}
 use native.Mathlib.Nat.{zero-add}
-use native.Mathlib.Omega.{arith}
 use lib.ListN.{length, drop}
 use Rattle.common.specs.Lists.{placed}
 use Rattle.convolutional_code.specs.Bits.{bits_of}
@@ -14,10 +13,6 @@ use Rattle.puncturing.specs.Run.{punctured_symbols, progress}
 use Rattle.inner_code.specs.Encode.{block_symbols}
 use Rattle.inner_code.proofs.Coder.{qpsk_symbols, qpsk_coder, symbols_serial, coder_serial}
 use Rattle.inner_code.proofs.encode_qpsk.Goals as goal
-
-pub code_bytes-next-requires : goal.code_bytes-next-requires
-code_bytes-next-requires c =
-    (c.requires.0.range.memory, omega (arith, c.requires.0.size), omega (arith, c.requires.0.size), omega (arith, c.requires.0.size))
 
 pub puncture_block-progress-requires : goal.puncture_block-progress-requires
 puncture_block-progress-requires c =
@@ -29,7 +24,6 @@ puncture_block-progress-requires c =
       g.place,
       g.held,
       rw e (bits_append (bits_mother taps_x m bits) (bits_mother taps_y m bits)),
-      c.code_bytes-next.auto.coded,
       rw (e, ← symbols_serial c.args.coder bits (block_bits_lem c.args.block.now c.requires.0.size), ← qpsk_symbols c.args.coder c.requires.1 c.args.block.now) c.requires.0.enough,
     )
 
@@ -46,7 +40,6 @@ returns c =
     let bits = block_bits_lem block c.requires.0.size in
     let symbols = qpsk_symbols coder c.requires.1 block ∙ symbols_serial coder (bits_of block) bits in
     record {
-      number = refl;
       coder = (λ i. record { rate = coder.rate; memory = memory i; place = (progressed i).place; held = (progressed i).held }) ∙ sym (qpsk_coder coder c.requires.1 block ∙ coder_serial coder (bits_of block) bits);
       count = (λ i. (progressed i).count) ∙ zero-add _ ∙ ap length (sym symbols);
       written =

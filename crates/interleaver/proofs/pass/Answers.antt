@@ -19,13 +19,13 @@ returns-then-output-lt204 c =
     let good : let a = c.args in branches_in_range a.side a.branches ≡ true = sym c.positions_within.ensures ∙ c.if-not-positions_within.false in
     simp (good, eq-eqb _ _ c.if-block-ne204.false, lt-ltb _ _ c.if-output-lt204.true) (refl, refl, refl)
 
-pub pass_block-next-requires : goal.pass_block-next-requires
-pass_block-next-requires c =
+pub pass_block-requires : goal.pass_block-requires
+pass_block-requires c =
     let good : let a = c.args in branches_in_range a.side a.branches ≡ true = sym c.positions_within.ensures ∙ c.if-not-positions_within.false in
     (good, c.if-block-ne204.false, c.if-output-lt204.false)
 
 pub returns : goal.returns
 returns c =
     let good : let a = c.args in branches_in_range a.side a.branches ≡ true = sym c.positions_within.ensures ∙ c.if-not-positions_within.false in
-    let r = c.pass_block-next.ensures in
+    let r = c.pass_block.ensures in
     simp (good, eq-eqb _ _ c.if-block-ne204.false, le-ltb _ _ c.if-output-lt204.false) (refl, r.0, r.1)

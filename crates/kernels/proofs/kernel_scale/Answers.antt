@@ -19,4 +19,4 @@ returns c =
     let n : 0 + length c.scale_by-last.result ≡ 16 = omega (arith, c.scale_by-last.type_inv.1.0.1) in
     simp (le-ltb _ _ c.if-lanes-lt16.false)
     (c.put.ensures
-    ∙ ap₂ (λ (l : List ℕ) (k : ℕ). l ++ drop k lanes) (c.scale_by-last.ensures ∙ ap (scaled_by factors) c.sixteen.ensures) n)
+    ∙ ap₂ (λ (l : List ℕ) (k : ℕ). l ++ drop k lanes) (c.scale_by-last.ensures ∙ ap (scaled_by factors) c.array_at.ensures) n)

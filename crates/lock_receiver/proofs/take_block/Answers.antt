@@ -1,11 +1,10 @@
 -- `lock_receiver::take_block` meets its contract.
 -- Assumes nothing.
-use mathlib.Core.Path.{refl, sym, subst, ◌∙◌}
+use mathlib.Core.Path.{refl, ◌∙◌}
 use Prim.Native.Nat.{ℕ}
 use native.Mathlib.Omega.{arith}
 use lib.ListN.{length-replicate}
 use Rattle.losses.proofs.Decisions.{most_seven}
-use Rattle.lock_receiver.specs.Take.{Settles}
 use Rattle.lock_receiver.proofs.Ranges.{lock_range}
 use Rattle.lock_receiver.proofs.Taking.{more_waits, takes_one}
 use Rattle.lock_receiver.proofs.take_block.Goals as goal
@@ -21,7 +20,7 @@ settle-settled-requires c =
     let v = c.args.lock in
     let r = lock_range v c.requires.range in (
       omega (arith, r.waiting.0, most_seven v.receiver.sync.place),
-      λ z f. more_waits v c.requires c.take_block-taken.ensures _ c.started-start.ensures (sym c.number.ensures ∙ z) f,
+      λ z f. more_waits v c.requires c.take_block-taken.ensures _ c.started-start.ensures z f,
       c.take_block-taken.auto.output ∙ length-replicate {A = ℕ} 188 0,
       c.requires.enough,
     )
@@ -29,5 +28,4 @@ settle-settled-requires c =
 pub returns : goal.returns
 returns c =
     let t = c.take_block-taken in
-    takes_one c.args.lock c.requires t.ensures (length-replicate {A = ℕ} 188 0) (t.auto.output ∙ length-replicate {A = ℕ} 188 0) _ _ _ _ _ refl c.start_due-due.ensures c.started-start.ensures refl refl
-    (subst (λ (n : ℕ). Settles c.args.lock.certainty n c.start_due-due.result c.started-start.result t.new.output c.args.lock.packets c.args.output.now c.settle-settled.result.packets c.settle-settled.result.given c.settle-settled.new.output) c.number.ensures c.settle-settled.ensures)
+    takes_one c.args.lock c.requires t.ensures (length-replicate {A = ℕ} 188 0) (t.auto.output ∙ length-replicate {A = ℕ} 188 0) _ _ _ _ _ refl c.start_due-due.ensures c.started-start.ensures refl refl c.settle-settled.ensures

@@ -25,7 +25,7 @@ returns c =
             record {
               found = c.low_of.ensures i;
               locked = c.high_of.ensures i;
-              receiver = record { receiver = c.read_state-blocks.ensures i; certainty = certain i; packets = c.packets_at-packets.ensures i };
+              receiver = record { receiver = c.read_state-blocks.ensures i; certainty = certain i; packets = c.array_at-packets.ensures i };
               skipped = c.number_at-skipped.ensures i;
               end = c.number_at-end.ensures i;
             };

@@ -1,68 +1,37 @@
 -- `losses::list_losses` meets its contract.
 -- Assumes nothing.
-use mathlib.Core.Path.{subst, ◌∙◌}
+use mathlib.Core.Path.{refl, subst}
 use native.Mathlib.Omega.{arith}
+use Rattle.std.proofs.lemmas.Result.{err_from_is_err_and}
+use Rattle.answer.proofs.Positive.{number_positive}
 use Rattle.answer.specs.Number.{number_of}
 use Rattle.losses.specs.Feed.{fresh_loss_stream, FeedsLosses}
 use Rattle.losses.specs.declared.LossStream.{LossStream}
-use Rattle.losses.proofs.Runs.{Left, run_refused, run_fed, left_count, run_closed, run_count_lem}
+use Rattle.losses.proofs.Runs.{Left, run_refused, run_fed, close_number, run_closed}
 use Rattle.losses.proofs.list_losses.Goals as goal
 
-pub returns-then-number-ne0 : goal.returns-then-number-ne0
-returns-then-number-ne0 c =
-    let fed_fresh : let a = c.args in
-    FeedsLosses fresh_loss_stream a.bytes.now a.marks.now a.lines.now (number_of c.feed-fed.result.answer) c.feed-fed.result.count c.feed-fed.result.stream c.feed-fed.new.lines = let a = c.args in
-    subst (λ (i : LossStream). FeedsLosses i a.bytes.now a.marks.now a.lines.now (number_of c.feed-fed.result.answer) c.feed-fed.result.count c.feed-fed.result.stream c.feed-fed.new.lines)
-    c.new-stream.ensures c.feed-fed.ensures in
-    run_refused (fed_fresh) (λ z. c.if-number-ne0.true (c.number.ensures ∙ z))
+pub returns-in_err-fed : goal.returns-in_err-fed
+returns-in_err-fed c =
+    let a = c.args in
+    let e = c.in_err-fed.ensures in
+    let p = err_from_is_err_and c.from_residual.result c.from_residual.ensures.1 in
+    let fed : FeedsLosses fresh_loss_stream a.bytes.now a.marks.now a.lines.now (number_of c.in_err-fed.field-0.0) 0 fresh_loss_stream c.feed.new.lines
+    = subst (λ (i : LossStream). FeedsLosses i a.bytes.now a.marks.now a.lines.now (number_of c.in_err-fed.field-0.0) 0 i c.feed.new.lines) c.new.ensures e in
+    rw (p.1, p.2) (run_refused fed (λ z. omega (arith, number_positive c.in_err-fed.field-0.0)))
 
-pub offset_bounds-lines-count : goal.offset_bounds-lines-count
-offset_bounds-lines-count c =
-    let fed_fresh : let a = c.args in
-    FeedsLosses fresh_loss_stream a.bytes.now a.marks.now a.lines.now (number_of c.feed-fed.result.answer) c.feed-fed.result.count c.feed-fed.result.stream c.feed-fed.new.lines = let a = c.args in
-    subst (λ (i : LossStream). FeedsLosses i a.bytes.now a.marks.now a.lines.now (number_of c.feed-fed.result.answer) c.feed-fed.result.count c.feed-fed.result.stream c.feed-fed.new.lines)
-    c.new-stream.ensures c.feed-fed.ensures in
-    let left : let a = c.args in let f = c.feed-fed in
-    Left a.bytes.now a.marks.now a.lines.now f.result.count f.result.stream f.new.lines = run_fed (fed_fresh) (omega (arith, c.number.ensures, c.if-number-ne0.false)) in
-    omega (arith, (left_count (left)).0, (left_count (left)).1, c.well_formed)
-
-pub slice_bounds-close-count : goal.slice_bounds-close-count
-slice_bounds-close-count c =
-    let fed_fresh : let a = c.args in
-    FeedsLosses fresh_loss_stream a.bytes.now a.marks.now a.lines.now (number_of c.feed-fed.result.answer) c.feed-fed.result.count c.feed-fed.result.stream c.feed-fed.new.lines = let a = c.args in
-    subst (λ (i : LossStream). FeedsLosses i a.bytes.now a.marks.now a.lines.now (number_of c.feed-fed.result.answer) c.feed-fed.result.count c.feed-fed.result.stream c.feed-fed.new.lines)
-    c.new-stream.ensures c.feed-fed.ensures in
-    let left : let a = c.args in let f = c.feed-fed in
-    Left a.bytes.now a.marks.now a.lines.now f.result.count f.result.stream f.new.lines = run_fed (fed_fresh) (omega (arith, c.number.ensures, c.if-number-ne0.false)) in
-    (left_count (left)).0
-
-pub slice_bounds-close-start : goal.slice_bounds-close-start
-slice_bounds-close-start c =
-    let fed_fresh : let a = c.args in
-    FeedsLosses fresh_loss_stream a.bytes.now a.marks.now a.lines.now (number_of c.feed-fed.result.answer) c.feed-fed.result.count c.feed-fed.result.stream c.feed-fed.new.lines = let a = c.args in
-    subst (λ (i : LossStream). FeedsLosses i a.bytes.now a.marks.now a.lines.now (number_of c.feed-fed.result.answer) c.feed-fed.result.count c.feed-fed.result.stream c.feed-fed.new.lines)
-    c.new-stream.ensures c.feed-fed.ensures in
-    let left : let a = c.args in let f = c.feed-fed in
-    Left a.bytes.now a.marks.now a.lines.now f.result.count f.result.stream f.new.lines = run_fed (fed_fresh) (omega (arith, c.number.ensures, c.if-number-ne0.false)) in
-    (left_count (left)).0
-
-pub overflow_add-result : goal.overflow_add-result
-overflow_add-result c =
-    let fed_fresh : let a = c.args in
-    FeedsLosses fresh_loss_stream a.bytes.now a.marks.now a.lines.now (number_of c.feed-fed.result.answer) c.feed-fed.result.count c.feed-fed.result.stream c.feed-fed.new.lines = let a = c.args in
-    subst (λ (i : LossStream). FeedsLosses i a.bytes.now a.marks.now a.lines.now (number_of c.feed-fed.result.answer) c.feed-fed.result.count c.feed-fed.result.stream c.feed-fed.new.lines)
-    c.new-stream.ensures c.feed-fed.ensures in
-    let left : let a = c.args in let f = c.feed-fed in
-    Left a.bytes.now a.marks.now a.lines.now f.result.count f.result.stream f.new.lines = run_fed (fed_fresh) (omega (arith, c.number.ensures, c.if-number-ne0.false)) in
-    let n = run_count_lem (left) c.close-closed.ensures.1 in
-    omega (arith, n, c.well_formed)
+pub returns-in_err-told : goal.returns-in_err-told
+returns-in_err-told c =
+    let a = c.args in
+    let f = c.in_ok-fed.fed in
+    let e = c.in_err-told.ensures in
+    let left : Left a.bytes.now a.marks.now a.lines.now f.count f.stream c.feed.new.lines
+    = run_fed (subst (λ (i : LossStream). FeedsLosses i a.bytes.now a.marks.now a.lines.now 0 f.count f.stream c.feed.new.lines) c.new.ensures c.in_ok-fed.ensures) refl in
+    absurd (omega (arith, e.0, number_positive c.in_err-told.field-0.0, close_number left))
 
 pub returns : goal.returns
 returns c =
-    let fed_fresh : let a = c.args in
-    FeedsLosses fresh_loss_stream a.bytes.now a.marks.now a.lines.now (number_of c.feed-fed.result.answer) c.feed-fed.result.count c.feed-fed.result.stream c.feed-fed.new.lines = let a = c.args in
-    subst (λ (i : LossStream). FeedsLosses i a.bytes.now a.marks.now a.lines.now (number_of c.feed-fed.result.answer) c.feed-fed.result.count c.feed-fed.result.stream c.feed-fed.new.lines)
-    c.new-stream.ensures c.feed-fed.ensures in
-    let left : let a = c.args in let f = c.feed-fed in
-    Left a.bytes.now a.marks.now a.lines.now f.result.count f.result.stream f.new.lines = run_fed (fed_fresh) (omega (arith, c.number.ensures, c.if-number-ne0.false)) in
-    run_closed (left) c.close-closed.ensures.1
+    let a = c.args in
+    let f = c.in_ok-fed.fed in
+    let left : Left a.bytes.now a.marks.now a.lines.now f.count f.stream c.feed.new.lines
+    = run_fed (subst (λ (i : LossStream). FeedsLosses i a.bytes.now a.marks.now a.lines.now 0 f.count f.stream c.feed.new.lines) c.new.ensures c.in_ok-fed.ensures) refl in
+    run_closed left c.in_ok-told.ensures.1

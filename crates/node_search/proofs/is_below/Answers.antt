@@ -9,19 +9,19 @@ use Rattle.node_search.proofs.Tables.{cheaper_small, apart_small, cheaper_total,
 use Rattle.node_search.proofs.is_below.Goals as goal
 
 pub total_of-floor-requires : goal.total_of-floor-requires
-total_of-floor-requires c = (cheaper_small, refl, c.requires.3, omega (arith, c.requires.2, (numbers c.args.rate c.requires.0).tried_most))
+total_of-floor-requires c = (cheaper_small, refl, c.requires.3, omega (arith, c.requires.2, (numbers c.args.h.rate c.requires.0).tried_most))
 
 pub total_of-weight-requires : goal.total_of-weight-requires
-total_of-weight-requires c = (apart_small, refl, c.requires.3, omega (arith, c.requires.2, (numbers c.args.rate c.requires.0).tried_most))
+total_of-weight-requires c = (apart_small, refl, c.requires.3, omega (arith, c.requires.2, (numbers c.args.h.rate c.requires.0).tried_most))
 
 pub overflow_mul-result-2 : goal.overflow_mul-result-2
-overflow_mul-result-2 c = omega (arith, c.total_of-floor.ensures.1, c.requires.2, (numbers c.args.rate c.requires.0).tried_most)
+overflow_mul-result-2 c = omega (arith, c.total_of-floor.ensures.1, c.requires.2, (numbers c.args.h.rate c.requires.0).tried_most)
 
 pub overflow_mul-result-3 : goal.overflow_mul-result-3
-overflow_mul-result-3 c = omega (arith, product c.threshold_of.result c.total_of-weight.result (omega (arith, c.threshold_of.ensures, (numbers c.args.rate c.requires.0).threshold_most)) (omega (arith, c.total_of-weight.ensures.1, c.requires.2, (numbers c.args.rate c.requires.0).tried_most)))
+overflow_mul-result-3 c = omega (arith, product c.threshold_of.result c.total_of-weight.result (omega (arith, c.threshold_of.ensures, (numbers c.args.h.rate c.requires.0).threshold_most)) (omega (arith, c.total_of-weight.ensures.1, c.requires.2, (numbers c.args.h.rate c.requires.0).tried_most)))
 
 pub overflow_add-result : goal.overflow_add-result
-overflow_add-result c = omega (arith, c.total_of-floor.ensures.1, c.requires.2, (numbers c.args.rate c.requires.0).tried_most, product c.threshold_of.result c.total_of-weight.result (omega (arith, c.threshold_of.ensures, (numbers c.args.rate c.requires.0).threshold_most)) (omega (arith, c.total_of-weight.ensures.1, c.requires.2, (numbers c.args.rate c.requires.0).tried_most)))
+overflow_add-result c = omega (arith, c.total_of-floor.ensures.1, c.requires.2, (numbers c.args.h.rate c.requires.0).tried_most, product c.threshold_of.result c.total_of-weight.result (omega (arith, c.threshold_of.ensures, (numbers c.args.h.rate c.requires.0).threshold_most)) (omega (arith, c.total_of-weight.ensures.1, c.requires.2, (numbers c.args.h.rate c.requires.0).tried_most)))
 
 pub returns : goal.returns
 returns c =

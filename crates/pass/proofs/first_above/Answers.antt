@@ -5,25 +5,22 @@ use Rattle.pass.proofs.Marks.{above_here, above_later, above_none}
 use Rattle.pass.proofs.first_above.Goals as goal
 
 pub loop-i-init : goal.loop-i-init
-loop-i-init c = (omega arith, omega arith)
+loop-i-init c = omega arith
 
-pub returns-then-marks-i-gt1 : goal.returns-then-marks-i-gt1
-returns-then-marks-i-gt1 c =
+pub returns-then-mark-gt1 : goal.returns-then-mark-gt1
+returns-then-mark-gt1 c =
     let l = c.loop-i in
-    let t = c.loop-i-test in
-    let h = above_here c.args.marks.now l.i (omega (arith, t)) c.if-marks-i-gt1.true in
-    omega (arith, l.invariant.1, h)
+    let h = above_here c.args.marks.now l.i (omega arith) c.if-mark-gt1.true in
+    omega (arith, l.invariant, h)
 
 pub loop-i-preserved : goal.loop-i-preserved
 loop-i-preserved c =
     let l = c.loop-i in
-    let t = c.loop-i-test in
-    let h = above_later c.args.marks.now l.i (omega (arith, t)) c.if-marks-i-gt1.false in
-    (omega (arith, t), omega (arith, l.invariant.1, h))
+    let h = above_later c.args.marks.now l.i (omega arith) c.if-mark-gt1.false in
+    omega (arith, l.invariant, h)
 
 pub returns : goal.returns
 returns c =
     let l = c.loop-i in
-    let t = c.loop-i-test in
-    let h = above_none c.args.marks.now l.i (omega (arith, t)) in
-    omega (arith, l.invariant.1, h)
+    let h = above_none c.args.marks.now l.i (omega arith) in
+    omega (arith, l.invariant, h)

@@ -6,10 +6,11 @@ use Prim.Native.Nat.{ℕ, ◌≤◌, min}
 use native.Mathlib.Omega.{arith}
 use lib.Seq.{length-take-le}
 use Rattle.common.specs.Choice.{pick}
+use Rattle.answer.proofs.Positive.{number_not_zero}
 use Rattle.receiver_stream.specs.Feed.{capacity_of}
 use Rattle.receiver_stream.proofs.Laws.{reception_range}
 use Rattle.pass.specs.Pass.{marks_failed, output_failed_lem, refused}
-use Rattle.pass.proofs.Going.{came_none, came_taken, came_over, ended_read, came_bad, came_more, came_less, hands_file, hands_nothing, hands_wanted, feeds_within}
+use Rattle.pass.proofs.Going.{came_none, came_taken, came_over, ended_read, came_bad, came_more, came_less, taken, hands_file, hands_nothing, hands_wanted, feeds_within}
 use Rattle.pass.proofs.receive_all.Goals as goal
 
 pub loop-ending-init : goal.loop-ending-init
@@ -20,12 +21,12 @@ loop-ending-init c =
 pub read-filled-requires : goal.read-filled-requires
 read-filled-requires c =
     let l = c.loop-ending in
-    omega (arith, c.smaller-most.ensures)
+    omega (arith, c.min-most.ensures)
 
 pub returns-then-n-eq0 : goal.returns-then-n-eq0
 returns-then-n-eq0 c =
-    let most_is : c.smaller-most.result ≡ min (capacity_of c.loop-ending.stream) 65536 = let l = c.loop-ending in
-    c.smaller-most.ensures ∙ ap₂ min (c.capacity.ensures ∙ ap (λ (t : Bool). pick t (capacity_of l.stream) 0) (reception_range l.invariant.0.reception)) l.invariant.1 in
+    let most_is : c.min-most.result ≡ min (capacity_of c.loop-ending.stream) 65536 = let l = c.loop-ending in
+    c.min-most.ensures ∙ ap₂ min (c.capacity.ensures ∙ ap (λ (t : Bool). pick t (capacity_of l.stream) 0) (reception_range l.invariant.0.reception)) l.invariant.1 in
     let l = c.loop-ending in
     let r = c.read-filled in
     record {
@@ -38,8 +39,8 @@ returns-then-n-eq0 c =
 
 pub read_marks-marked-requires : goal.read_marks-marked-requires
 read_marks-marked-requires c =
-    let most_is : c.smaller-most.result ≡ min (capacity_of c.loop-ending.stream) 65536 = let l = c.loop-ending in
-    c.smaller-most.ensures ∙ ap₂ min (c.capacity.ensures ∙ ap (λ (t : Bool). pick t (capacity_of l.stream) 0) (reception_range l.invariant.0.reception)) l.invariant.1 in
+    let most_is : c.min-most.result ≡ min (capacity_of c.loop-ending.stream) 65536 = let l = c.loop-ending in
+    c.min-most.ensures ∙ ap₂ min (c.capacity.ensures ∙ ap (λ (t : Bool). pick t (capacity_of l.stream) 0) (reception_range l.invariant.0.reception)) l.invariant.1 in
     let l = c.loop-ending in
     omega (arith, c.read-filled.ensures.within, most_is, l.invariant.2)
 
@@ -54,8 +55,8 @@ shape_of-packets-then-failed c = c.loop-ending.invariant.3 ∙ sym c.requires.6
 
 pub returns-then-failed : goal.returns-then-failed
 returns-then-failed c =
-    let most_is : c.smaller-most.result ≡ min (capacity_of c.loop-ending.stream) 65536 = let l = c.loop-ending in
-    c.smaller-most.ensures ∙ ap₂ min (c.capacity.ensures ∙ ap (λ (t : Bool). pick t (capacity_of l.stream) 0) (reception_range l.invariant.0.reception)) l.invariant.1 in
+    let most_is : c.min-most.result ≡ min (capacity_of c.loop-ending.stream) 65536 = let l = c.loop-ending in
+    c.min-most.ensures ∙ ap₂ min (c.capacity.ensures ∙ ap (λ (t : Bool). pick t (capacity_of l.stream) 0) (reception_range l.invariant.0.reception)) l.invariant.1 in
     let l = c.loop-ending in
     let failed = sym c.failed.ensures ∙ c.if-failed.true in
     record {
@@ -70,22 +71,22 @@ returns-then-failed c =
 
 pub slice_bounds-first_above-end : goal.slice_bounds-first_above-end
 slice_bounds-first_above-end c =
-    let most_is : c.smaller-most.result ≡ min (capacity_of c.loop-ending.stream) 65536 = let l = c.loop-ending in
-    c.smaller-most.ensures ∙ ap₂ min (c.capacity.ensures ∙ ap (λ (t : Bool). pick t (capacity_of l.stream) 0) (reception_range l.invariant.0.reception)) l.invariant.1 in
+    let most_is : c.min-most.result ≡ min (capacity_of c.loop-ending.stream) 65536 = let l = c.loop-ending in
+    c.min-most.ensures ∙ ap₂ min (c.capacity.ensures ∙ ap (λ (t : Bool). pick t (capacity_of l.stream) 0) (reception_range l.invariant.0.reception)) l.invariant.1 in
     let m = c.read_marks-marked in
     omega (arith, m.ensures.within, m.auto.buffer, c.read-filled.ensures.within, most_is, c.loop-ending.invariant.2)
 
 pub slice_bounds-first_above-end-in-loop-ending : goal.slice_bounds-first_above-end-in-loop-ending
 slice_bounds-first_above-end-in-loop-ending c =
-    let most_is : c.smaller-most.result ≡ min (capacity_of c.loop-ending.stream) 65536 = let l = c.loop-ending in
-    c.smaller-most.ensures ∙ ap₂ min (c.capacity.ensures ∙ ap (λ (t : Bool). pick t (capacity_of l.stream) 0) (reception_range l.invariant.0.reception)) l.invariant.1 in
+    let most_is : c.min-most.result ≡ min (capacity_of c.loop-ending.stream) 65536 = let l = c.loop-ending in
+    c.min-most.ensures ∙ ap₂ min (c.capacity.ensures ∙ ap (λ (t : Bool). pick t (capacity_of l.stream) 0) (reception_range l.invariant.0.reception)) l.invariant.1 in
     let m = c.read_marks-marked in
     sym (length-take-le m.result.length m.new.buffer (omega (arith, m.ensures.within, m.auto.buffer, c.read-filled.ensures.within, most_is, c.loop-ending.invariant.2)))
 
 pub block_of-requires : goal.block_of-requires
 block_of-requires c =
-    let most_is : c.smaller-most.result ≡ min (capacity_of c.loop-ending.stream) 65536 = let l = c.loop-ending in
-    c.smaller-most.ensures ∙ ap₂ min (c.capacity.ensures ∙ ap (λ (t : Bool). pick t (capacity_of l.stream) 0) (reception_range l.invariant.0.reception)) l.invariant.1 in
+    let most_is : c.min-most.result ≡ min (capacity_of c.loop-ending.stream) 65536 = let l = c.loop-ending in
+    c.min-most.ensures ∙ ap₂ min (c.capacity.ensures ∙ ap (λ (t : Bool). pick t (capacity_of l.stream) 0) (reception_range l.invariant.0.reception)) l.invariant.1 in
     let l = c.loop-ending in
     let t = c.if-place-came.true in
     let w = came_taken l.invariant.0 in
@@ -102,8 +103,8 @@ shape_of-packets-then-place-came c = c.loop-ending.invariant.3 ∙ sym c.require
 
 pub returns-then-place-came : goal.returns-then-place-came
 returns-then-place-came c =
-    let most_is : c.smaller-most.result ≡ min (capacity_of c.loop-ending.stream) 65536 = let l = c.loop-ending in
-    c.smaller-most.ensures ∙ ap₂ min (c.capacity.ensures ∙ ap (λ (t : Bool). pick t (capacity_of l.stream) 0) (reception_range l.invariant.0.reception)) l.invariant.1 in
+    let most_is : c.min-most.result ≡ min (capacity_of c.loop-ending.stream) 65536 = let l = c.loop-ending in
+    c.min-most.ensures ∙ ap₂ min (c.capacity.ensures ∙ ap (λ (t : Bool). pick t (capacity_of l.stream) 0) (reception_range l.invariant.0.reception)) l.invariant.1 in
     let l = c.loop-ending in
     let r = c.read-filled in
     let m = c.read_marks-marked in
@@ -120,37 +121,36 @@ returns-then-place-came c =
 
 pub slice_bounds-feed-end : goal.slice_bounds-feed-end
 slice_bounds-feed-end c =
-    let most_is : c.smaller-most.result ≡ min (capacity_of c.loop-ending.stream) 65536 = let l = c.loop-ending in
-    c.smaller-most.ensures ∙ ap₂ min (c.capacity.ensures ∙ ap (λ (t : Bool). pick t (capacity_of l.stream) 0) (reception_range l.invariant.0.reception)) l.invariant.1 in
+    let most_is : c.min-most.result ≡ min (capacity_of c.loop-ending.stream) 65536 = let l = c.loop-ending in
+    c.min-most.ensures ∙ ap₂ min (c.capacity.ensures ∙ ap (λ (t : Bool). pick t (capacity_of l.stream) 0) (reception_range l.invariant.0.reception)) l.invariant.1 in
     let r = c.read-filled in
     omega (arith, r.ensures.within, r.auto.buffer, most_is, c.loop-ending.invariant.1)
 
 pub slice_bounds-feed-end-in-loop-ending : goal.slice_bounds-feed-end-in-loop-ending
 slice_bounds-feed-end-in-loop-ending c =
-    let most_is : c.smaller-most.result ≡ min (capacity_of c.loop-ending.stream) 65536 = let l = c.loop-ending in
-    c.smaller-most.ensures ∙ ap₂ min (c.capacity.ensures ∙ ap (λ (t : Bool). pick t (capacity_of l.stream) 0) (reception_range l.invariant.0.reception)) l.invariant.1 in
+    let most_is : c.min-most.result ≡ min (capacity_of c.loop-ending.stream) 65536 = let l = c.loop-ending in
+    c.min-most.ensures ∙ ap₂ min (c.capacity.ensures ∙ ap (λ (t : Bool). pick t (capacity_of l.stream) 0) (reception_range l.invariant.0.reception)) l.invariant.1 in
     let r = c.read-filled in
     sym (length-take-le r.result.length r.new.buffer (omega (arith, r.ensures.within, r.auto.buffer, most_is, c.loop-ending.invariant.1)))
 
 pub slice_bounds-feed-end-in-loop-ending-2 : goal.slice_bounds-feed-end-in-loop-ending-2
 slice_bounds-feed-end-in-loop-ending-2 c =
-    let most_is : c.smaller-most.result ≡ min (capacity_of c.loop-ending.stream) 65536 = let l = c.loop-ending in
-    c.smaller-most.ensures ∙ ap₂ min (c.capacity.ensures ∙ ap (λ (t : Bool). pick t (capacity_of l.stream) 0) (reception_range l.invariant.0.reception)) l.invariant.1 in
+    let most_is : c.min-most.result ≡ min (capacity_of c.loop-ending.stream) 65536 = let l = c.loop-ending in
+    c.min-most.ensures ∙ ap₂ min (c.capacity.ensures ∙ ap (λ (t : Bool). pick t (capacity_of l.stream) 0) (reception_range l.invariant.0.reception)) l.invariant.1 in
     let r = c.read-filled in
     omega (arith, r.ensures.within, most_is, c.read_marks-marked.auto.buffer, c.loop-ending.invariant.2)
 
 pub slice_bounds-feed-end-in-loop-ending-3 : goal.slice_bounds-feed-end-in-loop-ending-3
 slice_bounds-feed-end-in-loop-ending-3 c =
-    let most_is : c.smaller-most.result ≡ min (capacity_of c.loop-ending.stream) 65536 = let l = c.loop-ending in
-    c.smaller-most.ensures ∙ ap₂ min (c.capacity.ensures ∙ ap (λ (t : Bool). pick t (capacity_of l.stream) 0) (reception_range l.invariant.0.reception)) l.invariant.1 in
+    let most_is : c.min-most.result ≡ min (capacity_of c.loop-ending.stream) 65536 = let l = c.loop-ending in
+    c.min-most.ensures ∙ ap₂ min (c.capacity.ensures ∙ ap (λ (t : Bool). pick t (capacity_of l.stream) 0) (reception_range l.invariant.0.reception)) l.invariant.1 in
     let r = c.read-filled in
     let m = c.read_marks-marked in
     sym (length-take-le r.result.length m.new.buffer (omega (arith, r.ensures.within, most_is, m.auto.buffer, c.loop-ending.invariant.2)))
 
 pub hand_on-output-requires : goal.hand_on-output-requires
 hand_on-output-requires c =
-    let f = c.feed-fed in
-    feeds_within f.ensures
+    feeds_within c.in-Ok.ensures
 
 pub shape_of-bytes-then-failed-2 : goal.shape_of-bytes-then-failed-2
 shape_of-bytes-then-failed-2 c = c.read-filled.auto.buffer ∙ c.loop-ending.invariant.1 ∙ sym c.requires.4
@@ -159,7 +159,7 @@ pub shape_of-own-then-failed-2 : goal.shape_of-own-then-failed-2
 shape_of-own-then-failed-2 c = c.read_marks-marked.auto.buffer ∙ c.loop-ending.invariant.2 ∙ sym c.requires.5
 
 pub shape_of-packets-then-failed-2 : goal.shape_of-packets-then-failed-2
-shape_of-packets-then-failed-2 c = c.feed-fed.auto.output ∙ c.loop-ending.invariant.3 ∙ sym c.requires.6
+shape_of-packets-then-failed-2 c = c.feed.auto.output ∙ c.loop-ending.invariant.3 ∙ sym c.requires.6
 
 pub returns-then-failed-2 : goal.returns-then-failed-2
 returns-then-failed-2 c =
@@ -174,26 +174,26 @@ returns-then-failed-2 c =
 
 pub loop-ending-smaller : goal.loop-ending-smaller
 loop-ending-smaller c =
-    let most_is : c.smaller-most.result ≡ min (capacity_of c.loop-ending.stream) 65536 = let l = c.loop-ending in
-    c.smaller-most.ensures ∙ ap₂ min (c.capacity.ensures ∙ ap (λ (t : Bool). pick t (capacity_of l.stream) 0) (reception_range l.invariant.0.reception)) l.invariant.1 in
+    let most_is : c.min-most.result ≡ min (capacity_of c.loop-ending.stream) 65536 = let l = c.loop-ending in
+    c.min-most.ensures ∙ ap₂ min (c.capacity.ensures ∙ ap (λ (t : Bool). pick t (capacity_of l.stream) 0) (reception_range l.invariant.0.reception)) l.invariant.1 in
     let l = c.loop-ending in
     let r = c.read-filled in
     let m = c.read_marks-marked in
     let n = c.if-n-eq0.false in
     came_less l.invariant.0 (most_is) r.ensures m.ensures (r.auto.buffer ∙ l.invariant.1) (m.auto.buffer ∙ l.invariant.2) (omega (arith, n))
-    (let z = c.if-place-came.false in subst (λ (k : ℕ). m.result.length ≤ k) c.first_above-place.ensures z) l.invariant.3 c.feed-fed.ensures
+    (let z = c.if-place-came.false in subst (λ (k : ℕ). m.result.length ≤ k) c.first_above-place.ensures z) l.invariant.3 c.in-Ok.ensures
 
 pub loop-ending-preserved : goal.loop-ending-preserved
 loop-ending-preserved c =
-    let most_is : c.smaller-most.result ≡ min (capacity_of c.loop-ending.stream) 65536 = let l = c.loop-ending in
-    c.smaller-most.ensures ∙ ap₂ min (c.capacity.ensures ∙ ap (λ (t : Bool). pick t (capacity_of l.stream) 0) (reception_range l.invariant.0.reception)) l.invariant.1 in
+    let most_is : c.min-most.result ≡ min (capacity_of c.loop-ending.stream) 65536 = let l = c.loop-ending in
+    c.min-most.ensures ∙ ap₂ min (c.capacity.ensures ∙ ap (λ (t : Bool). pick t (capacity_of l.stream) 0) (reception_range l.invariant.0.reception)) l.invariant.1 in
     let l = c.loop-ending in
     let r = c.read-filled in
     let m = c.read_marks-marked in
-    let f = c.feed-fed in
+    let f = c.feed in
     let n = c.if-n-eq0.false in (
       came_more l.invariant.0 (most_is) r.ensures m.ensures (r.auto.buffer ∙ l.invariant.1) (m.auto.buffer ∙ l.invariant.2) (omega (arith, n))
-          (let z = c.if-place-came.false in subst (λ (k : ℕ). m.result.length ≤ k) c.first_above-place.ensures z) l.invariant.3 f.ensures c.hand_on-output.ensures (sym c.failed-in-loop-ending.ensures ∙ c.if-failed-2.false) (sym c.failed.ensures ∙ c.if-failed.false),
+          (let z = c.if-place-came.false in subst (λ (k : ℕ). m.result.length ≤ k) c.first_above-place.ensures z) l.invariant.3 c.in-Ok.ensures c.hand_on-output.ensures (sym c.failed-in-loop-ending.ensures ∙ c.if-failed-2.false) (sym c.failed.ensures ∙ c.if-failed.false),
       r.auto.buffer ∙ l.invariant.1,
       m.auto.buffer ∙ l.invariant.2,
       f.auto.output ∙ l.invariant.3,
@@ -202,3 +202,15 @@ loop-ending-preserved c =
       hands_file c.hand_on-output.ensures ∙ l.invariant.6,
       λ w. hands_nothing c.hand_on-output.ensures w ∙ l.invariant.7 w,
     )
+
+pub unreachable-requires : goal.unreachable-requires
+unreachable-requires c =
+    let most_is : c.min-most.result ≡ min (capacity_of c.loop-ending.stream) 65536 = let l = c.loop-ending in
+    c.min-most.ensures ∙ ap₂ min (c.capacity.ensures ∙ ap (λ (t : Bool). pick t (capacity_of l.stream) 0) (reception_range l.invariant.0.reception)) l.invariant.1 in
+    let l = c.loop-ending in
+    let r = c.read-filled in
+    let m = c.read_marks-marked in
+    let n = c.if-n-eq0.false in
+    absurd (number_not_zero _
+    (taken l.invariant.0 (most_is) r.ensures m.ensures (r.auto.buffer ∙ l.invariant.1) (m.auto.buffer ∙ l.invariant.2) (omega (arith, n))
+    (let z = c.if-place-came.false in subst (λ (k : ℕ). m.result.length ≤ k) c.first_above-place.ensures z) l.invariant.3 c.in_default.ensures))

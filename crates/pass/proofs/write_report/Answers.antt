@@ -9,7 +9,7 @@ use lib.ListN.{length, take, drop, replicate}
 use lib.Seq.{take_at}
 use Rattle.program_io.specs.Files.{Writes}
 use Rattle.report.specs.Text.{report_text, text_number}
-use Rattle.report.proofs.AsWritten.{written_size, written_output}
+use Rattle.report.proofs.AsWritten.{size_given, written_size, written_output}
 use Rattle.report.proofs.Fronts.{report_short}
 use Rattle.receiver_stream.specs.History.{ReceiverCame}
 use Rattle.receiver_stream.specs.Reporting.{stream_report}
@@ -22,7 +22,7 @@ slice_bounds-text-end c =
     let text : List ℕ = report_text (stream_report c.args.stream) in
     let room : length (text) ≤ 310 = report_short (stream_report c.args.stream) in
     let due : text_number (text) (replicate 320 0) ≡ 0 = let h = room in simp (le-ltb 320 (length (text)) (omega (arith, h))) in
-    let size : c.report-written.result.length ≡ length (text) = written_size (c.report-written.ensures.whole _ _ _ _ came.reception (report_total _ _ _ _ came.reception)) (due) in
+    let size : c.unwrap_or-n.result ≡ length (text) = c.unwrap_or-n.ensures ∙ size_given c.report.result ∙ written_size (c.report.ensures.whole _ _ _ _ came.reception (report_total _ _ _ _ came.reception)) (due) in
     omega (arith, size, room)
 
 pub returns : goal.returns
@@ -31,7 +31,7 @@ returns c =
     let text : List ℕ = report_text (stream_report c.args.stream) in
     let room : length (text) ≤ 310 = report_short (stream_report c.args.stream) in
     let due : text_number (text) (replicate 320 0) ≡ 0 = let h = room in simp (le-ltb 320 (length (text)) (omega (arith, h))) in
-    let size : c.report-written.result.length ≡ length (text) = written_size (c.report-written.ensures.whole _ _ _ _ came.reception (report_total _ _ _ _ came.reception)) (due) in
-    let text_is : take c.report-written.result.length c.report-written.new.output ≡ text = ap (take c.report-written.result.length) (written_output (c.report-written.ensures.whole _ _ _ _ came.reception (report_total _ _ _ _ came.reception)) (due))
-    ∙ take_at (text) (drop (0 + length (text)) (replicate 320 0)) c.report-written.result.length (sym size) in
+    let size : c.unwrap_or-n.result ≡ length (text) = c.unwrap_or-n.ensures ∙ size_given c.report.result ∙ written_size (c.report.ensures.whole _ _ _ _ came.reception (report_total _ _ _ _ came.reception)) (due) in
+    let text_is : take c.unwrap_or-n.result c.report.new.output ≡ text = ap (take c.unwrap_or-n.result) (written_output (c.report.ensures.whole _ _ _ _ came.reception (report_total _ _ _ _ came.reception)) (due))
+    ∙ take_at (text) (drop (0 + length (text)) (replicate 320 0)) c.unwrap_or-n.result (sym size) in
     subst (λ (l : List ℕ). Writes c.args.output l c.write_text.result) (text_is) c.write_text.ensures

@@ -7,14 +7,16 @@ use lib.ListN.{get_or}
 use Rattle.puncturing.specs.Mode.{mode_of, mode_count, longest_pattern}
 use Rattle.puncturing.specs.Step.{punctured, punctured_by}
 use Rattle.puncturing.specs.Run.{by_kind}
+use Rattle.puncturing.specs.declared.tables.Completion.{Completion}
+use Rattle.puncturing.specs.declared.tables.Completion.TheVariants.{Nothing, XY, HeldX, HeldY, YX}
 use Rattle.puncturing.proofs.Places.{end, ◌&◌, EverywhereOf, everywhere_of}
 use Rattle.puncturing.proofs.completed_at.Goals as goal
 
-table : List ℕ
-table = 1 ∷ 0 ∷ 0 ∷ 0 ∷ 0 ∷ 0 ∷ 0 ∷ 1 ∷ 0 ∷ 2 ∷ 3 ∷ 0 ∷ 0 ∷ 0 ∷ 1 ∷ 0 ∷ 2 ∷ 0 ∷ 0 ∷ 0 ∷ 0 ∷ 1 ∷ 0 ∷ 2 ∷ 0 ∷ 2 ∷ 0 ∷ 0 ∷ 1 ∷ 0 ∷ 3 ∷ 0 ∷ 2 ∷ 0 ∷ 2 ∷ 4 ∷ 0 ∷ 0 ∷ 0 ∷ 0 ∷ 0 ∷ 0 ∷ []
+table : List Completion
+table = XY ∷ Nothing ∷ Nothing ∷ Nothing ∷ Nothing ∷ Nothing ∷ Nothing ∷ XY ∷ Nothing ∷ HeldX ∷ HeldY ∷ Nothing ∷ Nothing ∷ Nothing ∷ XY ∷ Nothing ∷ HeldX ∷ Nothing ∷ Nothing ∷ Nothing ∷ Nothing ∷ XY ∷ Nothing ∷ HeldX ∷ Nothing ∷ HeldX ∷ Nothing ∷ Nothing ∷ XY ∷ Nothing ∷ HeldY ∷ Nothing ∷ HeldX ∷ Nothing ∷ HeldX ∷ YX ∷ Nothing ∷ Nothing ∷ Nothing ∷ Nothing ∷ Nothing ∷ Nothing ∷ []
 
 abbrev Told : ℕ → ℕ → Type 0
-Told r p = (x y held : ℕ) → punctured r p x y held ≡ by_kind (get_or table (r * longest_pattern + p) 0) x y held
+Told r p = (x y held : ℕ) → punctured r p x y held ≡ by_kind (get_or table (r * longest_pattern + p) Nothing) x y held
 
 told : EverywhereOf mode_count Told
 unfolding table punctured_by mode_of
@@ -32,4 +34,4 @@ unfolding table
 returns c = λ x y held.
     let a = c.args in
     let g = c.requires in
-    everywhere_of mode_count Told told a.rate a.place g.0 g.1 x y held ∙ ap (λ (k : ℕ). by_kind (get_or table k 0) x y held) (sym c.cell.ensures.0)
+    everywhere_of mode_count Told told a.rate a.place g.0 g.1 x y held ∙ ap (λ (k : ℕ). by_kind (get_or table k Nothing) x y held) (sym c.cell.ensures.0)

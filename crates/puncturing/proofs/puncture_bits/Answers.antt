@@ -4,17 +4,13 @@ use mathlib.Core.Path.{ap, sym, ◌∙◌}
 use Prim.Native.Nat.{◌+◌, ◌<◌}
 use native.Mathlib.Omega.{arith}
 use lib.ListN.{length}
-use Rattle.common.proofs.Written.{written_length}
 use Rattle.convolutional_code.proofs.Bits.{bits_at}
 use Rattle.puncturing.specs.declared.Punctured.{Punctured}
 use Rattle.puncturing.proofs.Places.{up}
 use Rattle.puncturing.proofs.Steps.{held_le}
-use Rattle.puncturing.proofs.Run.{going_start, going_none, going_one, going_fits, going_end}
+use Rattle.puncturing.proofs.Run.{going_none, going_one, going_fits, going_end}
 use Rattle.puncturing.proofs.puncture_bits.Goals as goal
-use Rattle.puncturing.proofs.puncture_bits.Goals.{in-One, in_default}
-
-pub loop-n-init : goal.loop-n-init
-loop-n-init c = let g = c.requires in going_start g.0 g.1 g.2 g.5 g.7
+use Rattle.puncturing.proofs.puncture_bits.Goals.{in-Some, in_default}
 
 pub puncture-punctured-requires : goal.puncture-punctured-requires
 puncture-punctured-requires c =
@@ -22,7 +18,7 @@ puncture-punctured-requires c =
     let g = l.invariant in (
       up c.args.rate g.rate,
       g.place,
-      omega (arith, g.held, held_le c.args.rate l.p (up c.args.rate g.rate) g.place),
+      omega (arith, g.held, held_le c.args.rate l.place (up c.args.rate g.rate) g.place),
       bits_at c.requires.3 l.n,
       bits_at c.requires.3 (1632 + l.n),
     )
@@ -30,14 +26,8 @@ puncture-punctured-requires c =
 pub bounds-output-count : goal.bounds-output-count
 bounds-output-count c =
     let symbol_fits : let l = c.loop-n in
-    l.count < length l.output = going_fits c.loop-n.invariant c.requires.3 (omega arith) (sym c.in-One.is ∙ ap (λ (x : Punctured). x.symbol) c.puncture-punctured.ensures) in
+    l.count < length l.output = going_fits c.loop-n.invariant c.requires.3 (omega arith) (sym c.in-Some.is ∙ ap (λ (x : Punctured). x.symbol) c.puncture-punctured.ensures) in
     symbol_fits
-
-pub overflow_add-count : goal.overflow_add-count
-overflow_add-count c =
-    let symbol_fits : let l = c.loop-n in
-    l.count < length l.output = going_fits c.loop-n.invariant c.requires.3 (omega arith) (sym c.in-One.is ∙ ap (λ (x : Punctured). x.symbol) c.puncture-punctured.ensures) in
-    omega (arith, symbol_fits, written_length c.loop-n.invariant.written)
 
 pub loop-n-preserved : goal.loop-n-preserved
 loop-n-preserved c =
@@ -47,13 +37,10 @@ loop-n-preserved c =
     let place = ap (λ (x : Punctured). x.place) e in
     let held = ap (λ (x : Punctured). x.held) e in
     let symbol = ap (λ (x : Punctured). x.symbol) e in
-    elim c.match-symbol.branch [
-      | in-One w ↦ rw (w.output-is, w.count-is) (going_one g bits (omega arith) place held (sym w.in-One.is ∙ symbol))
+    elim c.match-punctured.branch [
+      | in-Some w ↦ rw (w.output-is, w.count-is) (going_one g bits (omega arith) place held (sym w.in-Some.is ∙ symbol))
       | in_default w ↦ rw (w.output-is, w.count-is) (going_none g bits (omega arith) place held (sym w.in_default.is ∙ symbol))
     ]
-
-pub shape_of-output : goal.shape_of-output
-shape_of-output c = written_length c.loop-n.invariant.written
 
 pub returns : goal.returns
 returns c = going_end c.loop-n.invariant (omega arith)

@@ -11,30 +11,6 @@ use Rattle.puncturing.proofs.Places.{length_le, up}
 use Rattle.puncturing.proofs.Parts.{to_start}
 use Rattle.puncturing.proofs.puncture_block.Goals as goal
 
-pub overflow_sub-turns : goal.overflow_sub-turns
-overflow_sub-turns c =
-    let len : c.pattern_length-len.result ≡ pattern_length c.args.rate = c.pattern_length-len.ensures in
-    let some : 0 < c.pattern_length-len.result = let g = c.requires.1 in omega (arith, len) in
-    let short : (c.pattern_length-len.result - c.args.place) % c.pattern_length-len.result ≤ longest_pattern = let h = mod-lt (c.pattern_length-len.result - c.args.place) some in
-    omega (arith, len, length_le c.args.rate (up c.args.rate c.requires.0)) in
-    omega (arith, short)
-
-pub overflow_mul-turns : goal.overflow_mul-turns
-overflow_mul-turns c =
-    let reach : (1632 - (c.pattern_length-len.result - c.args.place) % c.pattern_length-len.result) / c.pattern_length-len.result * c.pattern_length-len.result
-    ≤ 1632 - (c.pattern_length-len.result - c.args.place) % c.pattern_length-len.result = let e = div-add-mod' (1632 - (c.pattern_length-len.result - c.args.place) % c.pattern_length-len.result) c.pattern_length-len.result in omega arith in
-    omega (arith, reach)
-
-pub overflow_add-head : goal.overflow_add-head
-overflow_add-head c =
-    let len : c.pattern_length-len.result ≡ pattern_length c.args.rate = c.pattern_length-len.ensures in
-    let some : 0 < c.pattern_length-len.result = let g = c.requires.1 in omega (arith, len) in
-    let short : (c.pattern_length-len.result - c.args.place) % c.pattern_length-len.result ≤ longest_pattern = let h = mod-lt (c.pattern_length-len.result - c.args.place) some in
-    omega (arith, len, length_le c.args.rate (up c.args.rate c.requires.0)) in
-    let reach : (1632 - (c.pattern_length-len.result - c.args.place) % c.pattern_length-len.result) / c.pattern_length-len.result * c.pattern_length-len.result
-    ≤ 1632 - (c.pattern_length-len.result - c.args.place) % c.pattern_length-len.result = let e = div-add-mod' (1632 - (c.pattern_length-len.result - c.args.place) % c.pattern_length-len.result) c.pattern_length-len.result in omega arith in
-    omega (arith, reach, short)
-
 pub puncture_parts-requires : goal.puncture_parts-requires
 puncture_parts-requires c =
     let len : c.pattern_length-len.result ≡ pattern_length c.args.rate = c.pattern_length-len.ensures in
@@ -49,4 +25,4 @@ puncture_parts-requires c =
     ∙ to_start c.args.rate c.args.place g.0 g.1
     in
     let head = (c.pattern_length-len.result - c.args.place) % c.pattern_length-len.result in
-    (g.0, g.1, g.2, g.3, g.4, start, ap (λ (n : ℕ). head + (1632 - head) / c.pattern_length-len.result * n) (len), omega (arith, reach, short), g.5)
+    (g.0, g.1, g.2, g.3, start, ap (λ (n : ℕ). head + (1632 - head) / c.pattern_length-len.result * n) (len), omega (arith, reach, short), g.4)

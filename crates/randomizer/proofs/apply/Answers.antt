@@ -1,54 +1,20 @@
 -- `randomizer::apply` meets its contract.
 -- Assumes nothing.
-use mathlib.Core.Path.{◌≡◌}
+use mathlib.Core.Path.{◌≡◌, ap₂, ◌∙◌}
+use mathlib.Core.List.{List, ◌++◌}
+use Prim.Native.Nat.{ℕ}
+use native.Mathlib.Nat.{zero-add}
 use native.Mathlib.Omega.{arith}
-use Rattle.randomizer.proofs.Sixteens.{placed}
+use lib.ListN.{drop}
+use Rattle.randomizer.specs.Packet.{randomized}
 use Rattle.randomizer.proofs.apply.Goals as goal
+use Rattle.randomizer.proofs.apply.Goals.{in-0, in-1, in-2, in-3, in-4, in-5, in-6, in_default}
 
-pub returns-then-place-lt1 : goal.returns-then-place-lt1
-returns-then-place-lt1 c =
-    let s = c.sent_0-sent in
-    let e : c.args.place ≡ 0 = omega arith in
-    rw e (placed 0 c.args.packet.now s.result c.args.output.now _ (omega arith) c.requires.1 s.type_inv.1.0.1 s.ensures c.put.ensures)
-
-pub returns-else-place-lt1 : goal.returns-else-place-lt1
-returns-else-place-lt1 c =
-    let s = c.sent_1-sent in
-    let e : c.args.place ≡ 1 = omega arith in
-    rw e (placed 1 c.args.packet.now s.result c.args.output.now _ (omega arith) c.requires.1 s.type_inv.1.0.1 s.ensures c.put-else-place-lt1.ensures)
-
-pub returns-then-place-lt3 : goal.returns-then-place-lt3
-returns-then-place-lt3 c =
-    let s = c.sent_2-sent in
-    let e : c.args.place ≡ 2 = omega arith in
-    rw e (placed 2 c.args.packet.now s.result c.args.output.now _ (omega arith) c.requires.1 s.type_inv.1.0.1 s.ensures c.put-then-place-lt3.ensures)
-
-pub returns-else-place-lt3 : goal.returns-else-place-lt3
-returns-else-place-lt3 c =
-    let s = c.sent_3-sent in
-    let e : c.args.place ≡ 3 = omega arith in
-    rw e (placed 3 c.args.packet.now s.result c.args.output.now _ (omega arith) c.requires.1 s.type_inv.1.0.1 s.ensures c.put-else-place-lt3.ensures)
-
-pub returns-then-place-lt5 : goal.returns-then-place-lt5
-returns-then-place-lt5 c =
-    let s = c.sent_4-sent in
-    let e : c.args.place ≡ 4 = omega arith in
-    rw e (placed 4 c.args.packet.now s.result c.args.output.now _ (omega arith) c.requires.1 s.type_inv.1.0.1 s.ensures c.put-then-place-lt5.ensures)
-
-pub returns-else-place-lt5 : goal.returns-else-place-lt5
-returns-else-place-lt5 c =
-    let s = c.sent_5-sent in
-    let e : c.args.place ≡ 5 = omega arith in
-    rw e (placed 5 c.args.packet.now s.result c.args.output.now _ (omega arith) c.requires.1 s.type_inv.1.0.1 s.ensures c.put-else-place-lt5.ensures)
-
-pub returns-then-place-lt7 : goal.returns-then-place-lt7
-returns-then-place-lt7 c =
-    let s = c.sent_6-sent in
-    let e : c.args.place ≡ 6 = omega arith in
-    rw e (placed 6 c.args.packet.now s.result c.args.output.now _ (omega arith) c.requires.1 s.type_inv.1.0.1 s.ensures c.put-then-place-lt7.ensures)
-
-pub returns-else-place-lt7 : goal.returns-else-place-lt7
-returns-else-place-lt7 c =
-    let s = c.sent_7-sent in
-    let e : c.args.place ≡ 7 = omega arith in
-    rw e (placed 7 c.args.packet.now s.result c.args.output.now _ (omega arith) c.requires.1 s.type_inv.1.0.1 s.ensures c.put-else-place-lt7.ensures)
+pub returns : goal.returns
+returns c =
+    let a = c.args in
+    let m = c.match-place in
+    let is : m.sent ≡ randomized a.place a.packet.now
+    = elim m.branch [ in-0 w ↦ cc | in-1 w ↦ cc | in-2 w ↦ cc | in-3 w ↦ cc | in-4 w ↦ cc | in-5 w ↦ cc | in-6 w ↦ cc | in_default w ↦ (let seven : a.place ≡ 7 = omega arith in cc) ]
+    in
+    c.put.ensures ∙ ap₂ (λ (u : List ℕ) (k : ℕ). u ++ drop k a.output.now) is (zero-add _ ∙ m.array_long)

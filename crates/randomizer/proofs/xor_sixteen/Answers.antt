@@ -1,36 +1,29 @@
--- `randomizer::xor_sixteen` meets its contract: after j turns j bytes more are there.
+-- `randomizer::xor_sixteen` meets its contract: the bytes before byte i are there.
 -- Assumes nothing.
-use mathlib.Core.Path.{◌≡◌, sym, subst}
+use mathlib.Core.Path.{◌≡◌, subst, ◌∙◌}
 use Prim.Native.Nat.{ℕ, ◌+◌, ◌*◌}
-use native.Mathlib.Nat.{add-zero}
 use native.Mathlib.Omega.{arith}
 use Rattle.randomizer.specs.Masks.{Begun}
 use Rattle.randomizer.proofs.Sixteens.{begun_more, begun_less, begun_rounded}
-use borrow.Author.Rules.{rules}
 use Rattle.randomizer.proofs.xor_sixteen.Goals as goal
 
-pub loop-j-init : goal.loop-j-init
-loop-j-init c =
+pub loop-i-init : goal.loop-i-init
+loop-i-init c =
     let a = c.args in
-    let at = c.start-at.result in (
-      search rules,
-      c.well_formed.1.1.1.1.0.1.0.1,
-      subst (λ (i : ℕ). Begun a.place a.packet.now a.masks i a.written) (sym (add-zero at))
-          (begun_less a.place a.packet.now a.masks c.well_formed.1.1.0.1.0.1 at (16 * a.k) a.written c.start-at.ensures.0 c.requires.1),
-    )
+    begun_less a.place a.packet.now a.masks c.requires.1 c.start-at.result (16 * a.k) a.written.now c.start-at.ensures.0 c.requires.3
 
-pub loop-j-preserved : goal.loop-j-preserved
-loop-j-preserved c =
+pub loop-i-preserved : goal.loop-i-preserved
+loop-i-preserved c =
     let a = c.args in
-    let l = c.loop-j in
-    let at = c.start-at.result in
-    (search rules, search rules, begun_more a.place a.packet.now a.masks c.well_formed.1.1.0.1.0.1 at l.j l.r l.invariant.1 (omega (arith, c.start-at.ensures.1)) l.invariant.2)
+    let l = c.loop-i in
+    begun_more a.place a.packet.now a.masks c.requires.1 l.i l.written (l.auto.written ∙ c.requires.2) (omega (arith, c.start-at.ensures.1)) l.invariant
 
 pub returns : goal.returns
 returns c =
     let a = c.args in
-    let l = c.loop-j in
+    let l = c.loop-i in
+    let at = c.start-at.result in
     let e = c.start-at.ensures in
-    let n : l.j ≡ 16 = omega (arith, l.invariant.0) in
-    begun_rounded a.place a.packet.now a.masks c.well_formed.1.1.0.1.0.1 a.k c.start-at.result l.r l.invariant.1 e.2 e.3
-    (subst (λ (i : ℕ). Begun a.place a.packet.now a.masks (c.start-at.result + i) l.r) n l.invariant.2)
+    let n : l.i ≡ at + 16 = omega arith in
+    begun_rounded a.place a.packet.now a.masks c.requires.1 a.k at l.written (l.auto.written ∙ c.requires.2) e.2 e.3
+    (subst (λ (i : ℕ). Begun a.place a.packet.now a.masks i l.written) n l.invariant)

@@ -9,8 +9,8 @@ unfolding state_of
 returns c =
     let bytes = c.args.bytes.now in
     λ i. record {
-      deinterleaver = record { branches = record { cells = c.cells_at-cells.ensures i; positions = c.positions_at-positions.ensures i } };
-      marks = c.cells_at-marks.ensures i;
-      sync = record { place = c.place_of-place.ensures i; missed = get_or bytes 1135 0 };
-      counts = c.counts_at-counts.ensures i;
+      deinterleaver = record { branches = record { cells = c.array_at.ensures i; positions = c.array_at-2.ensures i } };
+      marks = c.array_at-3.ensures i;
+      sync = record { place = c.place_of.ensures i; missed = get_or bytes 1135 0 };
+      counts = c.counts_at.ensures i;
     }

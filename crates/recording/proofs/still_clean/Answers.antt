@@ -7,9 +7,6 @@ use Rattle.common.proofs.Largest.{largest_none}
 use borrow.Author.Tests.{eqb-true}
 use Rattle.recording.proofs.still_clean.Goals as goal
 
-pub returns-then-marks-eq0 : goal.returns-then-marks-eq0
-returns-then-marks-eq0 c = λ z. c.requires.1 c.if-marks-eq0.true z
-
 pub returns : goal.returns
 returns c =
     λ z. largest_none c.args.held.now (sym c.largest_of.ensures ∙ eqb-true _ _ z) ∙ ap (λ (n : ℕ). replicate n 0) c.requires.0

@@ -34,12 +34,6 @@ find_roots-roots-requires c =
       few_roots,
     )
 
-pub recur-requires : goal.recur-requires
-recur-requires c =
-    let few_roots : length (roots_of c.by_degree-by_degree.result c.locator-q.result) ≤ 16 = roots_sixteen _ _ _ c.args.marks.now ((16 - c.args.f) / 2) c.requires.2.size c.by_degree-by_degree.ensures c.locator-q.ensures (omega (arith, c.requires.3, c.requires.4)) in
-    let few_found : c.find_roots-roots.result.count ≤ 16 = omega (arith, c.find_roots-roots.ensures.number, few_roots) in
-    few_found
-
 pub returns-then-not-recur : goal.returns-then-not-recur
 returns-then-not-recur c =
     let steps : Decoding c.args.marks.now c.args.block.now c.syndromes-s.result c.by_degree-by_degree.result c.modified.result ((16 - c.args.f) / 2) c.locator-q.result c.find_roots-roots.result.degrees c.find_roots-roots.result.places c.find_roots-roots.result.count = record {
@@ -55,24 +49,6 @@ returns-then-not-recur c =
       roots = c.find_roots-roots.ensures;
     } in
     (c.requires.0, c.requires.2, rejected (steps) (subst (Recurring c.syndromes-s.result (take c.find_roots-roots.result.count c.find_roots-roots.result.places)) c.if-not-recur.true c.recur.ensures))
-
-pub root_product-p-requires : goal.root_product-p-requires
-root_product-p-requires c =
-    let few_roots : length (roots_of c.by_degree-by_degree.result c.locator-q.result) ≤ 16 = roots_sixteen _ _ _ c.args.marks.now ((16 - c.args.f) / 2) c.requires.2.size c.by_degree-by_degree.ensures c.locator-q.ensures (omega (arith, c.requires.3, c.requires.4)) in
-    let few_found : c.find_roots-roots.result.count ≤ 16 = omega (arith, c.find_roots-roots.ensures.number, few_roots) in
-    few_found
-
-pub error_values-values-requires : goal.error_values-values-requires
-error_values-values-requires c =
-    let few_roots : length (roots_of c.by_degree-by_degree.result c.locator-q.result) ≤ 16 = roots_sixteen _ _ _ c.args.marks.now ((16 - c.args.f) / 2) c.requires.2.size c.by_degree-by_degree.ensures c.locator-q.ensures (omega (arith, c.requires.3, c.requires.4)) in
-    let few_found : c.find_roots-roots.result.count ≤ 16 = omega (arith, c.find_roots-roots.ensures.number, few_roots) in
-    few_found
-
-pub set_bits-bits-requires : goal.set_bits-bits-requires
-set_bits-bits-requires c =
-    let few_roots : length (roots_of c.by_degree-by_degree.result c.locator-q.result) ≤ 16 = roots_sixteen _ _ _ c.args.marks.now ((16 - c.args.f) / 2) c.requires.2.size c.by_degree-by_degree.ensures c.locator-q.ensures (omega (arith, c.requires.3, c.requires.4)) in
-    let few_found : c.find_roots-roots.result.count ≤ 16 = omega (arith, c.find_roots-roots.ensures.number, few_roots) in
-    few_found
 
 pub correct-bytes-requires : goal.correct-bytes-requires
 correct-bytes-requires c =

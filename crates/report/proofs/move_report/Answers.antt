@@ -1,29 +1,17 @@
 -- `report::move_report` meets its contract.
 -- Assumes nothing.
-use mathlib.Core.Path.{sym, ◌∙◌}
+use native.Mathlib.Omega.{arith}
+use Rattle.std.proofs.lemmas.Result.{err_from_is_err_and}
+use Rattle.answer.proofs.Positive.{number_positive}
 use Rattle.answer.specs.Number.{number_of}
-use Rattle.report.proofs.Moving.{move_unread, move_refused, move_done}
+use Rattle.report.specs.Read.{blank}
+use Rattle.report.proofs.Moving.{move_unread}
 use Rattle.report.proofs.move_report.Goals as goal
 
-pub returns-then-number-ne0 : goal.returns-then-number-ne0
-returns-then-number-ne0 c =
+pub returns-in_err-report : goal.returns-in_err-report
+returns-in_err-report c =
     let a = c.args in
-    let r = c.read_report-read in
-    move_unread a.text.now a.form a.output.now (number_of r.result.answer) r.result.report r.ensures
-    (λ z. c.if-number-ne0.true (c.number.ensures ∙ z))
-
-pub returns-then-not-can_move : goal.returns-then-not-can_move
-returns-then-not-can_move c =
-    let a = c.args in
-    let r = c.read_report-read in
-    move_refused a.text.now a.form a.output.now (number_of r.result.answer) r.result.report r.ensures
-    (sym c.number.ensures ∙ c.if-number-ne0.false) (sym c.can_move.ensures ∙ c.if-not-can_move.true)
-
-pub returns : goal.returns
-returns c =
-    let a = c.args in
-    let r = c.read_report-read in
-    let w = c.write_report in
-    move_done a.text.now a.form a.output.now (number_of r.result.answer) r.result.report r.ensures
-    (sym c.number.ensures ∙ c.if-number-ne0.false) (sym c.can_move.ensures ∙ c.if-not-can_move.false)
-    c.other_bits-other.result c.other_bits-other.ensures _ _ _ w.ensures
+    let e = c.in_err-report in
+    let p = err_from_is_err_and c.from_residual.result c.from_residual.ensures.1 in
+    rw (p.1, p.2)
+    (move_unread a.text.now a.form a.output.now (number_of e.field-0.0) blank e.ensures (λ z. absurd (omega (arith, number_positive e.field-0.0))))

@@ -11,26 +11,17 @@ use Rattle.report.proofs.Table.{table}
 use borrow.Author.Rules.{rules}
 use Rattle.report.proofs.put_row.Goals as goal
 
-pub slice_bounds-put_line-count : goal.slice_bounds-put_line-count
-slice_bounds-put_line-count c = omega (arith, (table c.args.n (search rules)).order)
-
-pub slice_bounds-put_line-start : goal.slice_bounds-put_line-start
-slice_bounds-put_line-start c = omega (arith, (table c.args.n (search rules)).order)
-
-pub slice_bounds-put_line-end : goal.slice_bounds-put_line-end
-slice_bounds-put_line-end c = omega (arith, (table c.args.n (search rules)).end)
-
 pub put_line-requires : goal.put_line-requires
 put_line-requires c =
     let a = c.args in
     let t = table a.n (search rules) in
-    let k = ap length t.key in
+    let k = ap length c.table_row.ensures.0 in
     omega (arith, t.short)
 
 pub returns : goal.returns
 returns c =
     let a = c.args in
     let t = table a.n (search rules) in
-    let k = ap length t.key in
+    let k = ap length c.table_row.ensures.0 in
     let l = c.put_line in
-    restated (a.at + 31) l.ensures (ap (λ (w : List ℕ). line_text w a.value) t.key) (omega (arith, l.ensures.bound, t.short))
+    restated (a.at + 31) l.ensures (ap (λ (w : List ℕ). line_text w a.value) c.table_row.ensures.0) (omega (arith, l.ensures.bound, t.short))

@@ -23,4 +23,4 @@ unfolding fits row
 returns c =
     let e : numbers_within 8 (fields c.args.report) ≡ true = sym (c.counts_fit.ensures ∙ ap (numbers_within 8) c.numbers.ensures) ∙ c.if-not-counts_fit.false in
     let g : bits_within c.args.report.bits ≡ true = sym c.bits_fit.ensures ∙ c.if-not-bits_fit.false in
-    simp (e, g)
+    simp (e, g, c.table_row.ensures.1)

@@ -1,6 +1,7 @@
 -- `season::read_season` meets its contract.
 -- Assumes nothing.
-use mathlib.Core.Path.{refl, sym, ◌∙◌}
+use mathlib.Core.Path.{refl, sym, ap, ◌∙◌}
+use mathlib.Core.Bool.{not}
 use Prim.Native.Nat.{◌≤◌}
 use native.Mathlib.Omega.{arith}
 use lib.ListN.{length}
@@ -29,26 +30,26 @@ slice_bounds-feed-end c =
     let within : c.read-read.result.length ≤ length c.read-read.new.buffer = omega (arith, c.read-read.ensures.within, room) in
     sym (length-take-le _ _ (within))
 
-pub feed-next-requires : goal.feed-next-requires
-feed-next-requires c = some_came c.loop-buffer.invariant.0
+pub feed-season-requires : goal.feed-season-requires
+feed-season-requires c = some_came c.loop-buffer.invariant.0
 
 pub overflow_add-came : goal.overflow_add-came
 overflow_add-came c = record { fits = omega (arith, c.loop-buffer.invariant.0.few, c.read-read.ensures.within) }
 
-pub returns-then-number-ne0 : goal.returns-then-number-ne0
-returns-then-number-ne0 c =
+pub returns-then-is_err : goal.returns-then-is_err
+returns-then-is_err c =
     let room : 65536 ≤ length c.read-read.new.buffer = omega (arith, c.read-read.auto.buffer, c.loop-buffer.invariant.1) in
-    comes_refused c.loop-buffer.invariant.0 c.read-read.ensures (room) c.feed-next.ensures (λ z. c.if-number-ne0.true (c.number.ensures ∙ z))
+    comes_refused c.loop-buffer.invariant.0 c.read-read.ensures (room) c.feed-season.ensures (c.is_err.ensures.negation ∙ ap not c.if-is_err.true)
 
 pub loop-buffer-smaller : goal.loop-buffer-smaller
 loop-buffer-smaller c =
     let room : 65536 ≤ length c.read-read.new.buffer = omega (arith, c.read-read.auto.buffer, c.loop-buffer.invariant.1) in
-    let g = going_more c.loop-buffer.invariant.0 c.read-read.ensures (room) c.feed-next.ensures (sym c.number.ensures ∙ c.if-number-ne0.false) in
+    let g = going_more c.loop-buffer.invariant.0 c.read-read.ensures (room) c.feed-season.ensures (c.is_err.ensures.negation ∙ ap not c.if-is_err.false) in
     omega (arith, g.few, c.if-n-eq0.false)
 
 pub loop-buffer-preserved : goal.loop-buffer-preserved
 loop-buffer-preserved c =
     let room : 65536 ≤ length c.read-read.new.buffer = omega (arith, c.read-read.auto.buffer, c.loop-buffer.invariant.1) in (
-      going_more c.loop-buffer.invariant.0 c.read-read.ensures (room) c.feed-next.ensures (sym c.number.ensures ∙ c.if-number-ne0.false),
+      going_more c.loop-buffer.invariant.0 c.read-read.ensures (room) c.feed-season.ensures (c.is_err.ensures.negation ∙ ap not c.if-is_err.false),
       c.read-read.auto.buffer ∙ c.loop-buffer.invariant.1,
     )

@@ -3,8 +3,9 @@
 use mathlib.Core.Path.{◌≡◌}
 use native.Mathlib.Omega.{arith}
 use lib.ListN.{length}
+use Rattle.answer.proofs.Positive.{number_positive}
 use Rattle.sender_stream.proofs.Laws.{sending_range}
-use Rattle.sender_stream.proofs.Progress.{ready_of, progress_start, output_length, answers_length, count_within, packets_fit, progress_total, progress_more, progress_end}
+use Rattle.sender_stream.proofs.Progress.{ready_of, progress_start, output_length, answers_length, count_within, packets_fit, progress_total, progress_more, progress_sent, progress_end}
 use borrow.Author.Rules.{rules}
 use Rattle.sender_stream.proofs.send_whole.Goals as goal
 
@@ -25,6 +26,13 @@ slice_bounds-send_joined-start-in-loop-held c =
     let size : length c.args.sending.pending ≡ 188 = search rules in
     count_within (size) c.requires c.loop-held.invariant
 
+-- the sender does not refuse a packet
+pub returns-in_err-sent : goal.returns-in_err-sent
+returns-in_err-sent c =
+    let size : length c.args.sending.pending ≡ 188 = search rules in
+    let r = c.in_err-sent.ensures in
+    absurd (progress_sent (size) c.requires c.loop-held.invariant c.loop-held-test.true r.sends (number_positive c.in_err-sent.field-0.0) r.refused)
+
 pub bounds-answers-packets : goal.bounds-answers-packets
 bounds-answers-packets c =
     let size : length c.args.sending.pending ≡ 188 = search rules in
@@ -33,7 +41,7 @@ bounds-answers-packets c =
 pub overflow_add-count : goal.overflow_add-count
 overflow_add-count c =
     let size : length c.args.sending.pending ≡ 188 = search rules in
-    omega (arith, progress_total (size) c.requires c.loop-held.invariant c.loop-held-test.true c.send_joined-sent.ensures)
+    omega (arith, progress_total (size) c.requires c.loop-held.invariant c.loop-held-test.true c.in_ok-sent.ensures.sends)
 
 pub overflow_add-packets : goal.overflow_add-packets
 overflow_add-packets c =
@@ -43,7 +51,7 @@ overflow_add-packets c =
 pub loop-held-preserved : goal.loop-held-preserved
 loop-held-preserved c =
     let size : length c.args.sending.pending ≡ 188 = search rules in
-    progress_more (size) c.requires c.loop-held.invariant c.loop-held-test.true c.send_joined-sent.ensures c.number.ensures
+    progress_more (size) c.requires c.loop-held.invariant c.loop-held-test.true c.in_ok-sent.ensures.sends c.number.ensures
 
 pub shape_of-output : goal.shape_of-output
 shape_of-output c =
@@ -58,4 +66,4 @@ shape_of-answers c =
 pub returns : goal.returns
 returns c =
     let size : length c.args.sending.pending ≡ 188 = search rules in
-    progress_end (size) c.requires c.loop-held.invariant c.loop-held-test.false c.joined-pending.result c.joined-pending.ensures
+    progress_end (size) c.requires c.loop-held.invariant c.loop-held-test.false c.joined.result c.joined.ensures

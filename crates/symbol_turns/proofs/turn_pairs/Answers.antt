@@ -17,7 +17,7 @@ loop-k-init c = written_none (omega (arith, length-map c.args.pairs.now (turned_
 
 pub exchanged_pair-requires : goal.exchanged_pair-requires
 exchanged_pair-requires c =
-    All-at (λ p. p < 81) c.args.pairs.now 0 c.loop-k.k c.requires.1 c.loop-k-test.true
+    All-at (λ p. p < 81) c.args.pairs.now 0 c.loop-k.k c.requires.1 (omega arith)
 
 pub bounds-output-k : goal.bounds-output-k
 bounds-output-k c = omega (arith, written_length c.loop-k.invariant)
@@ -27,7 +27,7 @@ loop-k-preserved c =
     let pairs : List ℕ = c.args.pairs.now in
     let turn : ℕ = c.args.turn in
     let k : ℕ = c.loop-k.k in
-    let h : k < length pairs = c.loop-k-test.true in
+    let h : k < length pairs = (omega arith) in
     written_next c.loop-k.invariant c.exchanged_pair.result (omega (arith, length-map pairs (turned_pair turn)))
     (c.exchanged_pair.ensures
     ∙ (exchanged turn (get_or pairs k 0) c.requires.0 (All-at (λ p. p < 81) pairs 0 k c.requires.1 h)

@@ -6,7 +6,4 @@ use Rattle.sync_search.proofs.count_at.Goals as goal
 
 pub returns : goal.returns
 unfolding count_at
-returns c = (
-  omega (arith, c.is_at-a.ensures.0, c.is_at-b.ensures.0, c.is_at-c.ensures.0, c.is_at-d.ensures.0, c.is_at-e.ensures.0),
-  omega (arith, c.is_at-a.ensures.1, c.is_at-b.ensures.1, c.is_at-c.ensures.1, c.is_at-d.ensures.1, c.is_at-e.ensures.1),
-)
+returns c = omega (arith, c.is_at.ensures, c.is_at-2.ensures, c.is_at-3.ensures, c.is_at-4.ensures, c.is_at-5.ensures)

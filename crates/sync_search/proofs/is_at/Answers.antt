@@ -1,16 +1,19 @@
 -- `sync_search::is_at` meets its contract.
 -- Assumes nothing.
-use mathlib.Core.Path.{sym, ◌∙◌, ap}
+use mathlib.Core.Path.{◌≡◌, refl, ◌∙◌, ap}
+use mathlib.Core.Bool.{Bool, true, false}
+use Prim.Native.Nat.{◌≤◌}
 use native.Mathlib.Omega.{arith}
-use borrow.Author.Tests.{eq-eqb, ne_eqb}
+use lib.Dec.{eqb}
+use mir.Val.{bool_byte}
 use Rattle.common.specs.Choice.{indicator}
 use Rattle.sync_search.specs.Sync.{is_at}
 use Rattle.sync_search.proofs.is_at.Goals as goal
 
-pub returns-then-byte_at-value : goal.returns-then-byte_at-value
-unfolding is_at
-returns-then-byte_at-value c = (sym (ap indicator (eq-eqb _ _ (sym c.byte_at.ensures ∙ c.if-byte_at-value.true))), omega arith)
+bit : (b : Bool) → (bool_byte b ≡ indicator b) × (bool_byte b ≤ 1)
+bit true = (refl, omega arith)
+bit false = (refl, omega arith)
 
-pub returns-else-byte_at-value : goal.returns-else-byte_at-value
+pub returns : goal.returns
 unfolding is_at
-returns-else-byte_at-value c = (sym (ap indicator (ne_eqb _ _ (λ e. c.if-byte_at-value.false (c.byte_at.ensures ∙ e)))), omega arith)
+returns c = let a = c.args in ((bit _).0 ∙ ap (λ x. indicator (eqb x a.value)) c.byte_at.ensures, (bit (eqb c.byte_at.result a.value)).1)

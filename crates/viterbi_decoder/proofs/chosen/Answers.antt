@@ -8,6 +8,7 @@ use borrow.Author.Tests.{ltb-true}
 use lib.Dec.{ltb}
 use Rattle.common.specs.Choice.{pick}
 use Rattle.viterbi_decoder.specs.Lanes.{lesser, chosen}
+use Rattle.viterbi_decoder.proofs.Loops.{min_lesser}
 use Rattle.viterbi_decoder.proofs.chosen.Goals as goal
 
 first-lesser : (a b p q : ℕ) → lesser a b ≡ a → chosen a b p q ≡ p
@@ -24,8 +25,8 @@ second-lesser a b p q = go (ltb b a)
     go true n = refl
     go false n = absurd (n refl)
 
-pub returns-then-lesser-a : goal.returns-then-lesser-a
-returns-then-lesser-a c = sym (first-lesser _ _ _ _ (sym c.lesser.ensures ∙ c.if-lesser-a.true))
+pub returns-then-min-a : goal.returns-then-min-a
+returns-then-min-a c = sym (first-lesser _ _ _ _ (sym (c.min.ensures ∙ min_lesser _ _) ∙ c.if-min-a.true))
 
-pub returns-else-lesser-a : goal.returns-else-lesser-a
-returns-else-lesser-a c = sym (second-lesser _ _ _ _ (λ e. c.if-lesser-a.false (c.lesser.ensures ∙ e)))
+pub returns-else-min-a : goal.returns-else-min-a
+returns-else-min-a c = sym (second-lesser _ _ _ _ (λ e. c.if-min-a.false ((c.min.ensures ∙ min_lesser _ _) ∙ e)))

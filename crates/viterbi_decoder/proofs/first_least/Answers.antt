@@ -2,16 +2,15 @@
 -- Assumes nothing.
 use mathlib.Core.Path.{◌≡◌}
 use native.Mathlib.Omega.{arith}
-use Rattle.convolutional_code.specs.Costs.{at}
 use Rattle.viterbi_decoder.proofs.Ends.{ends_one, ends_new, ends_old}
 use Rattle.viterbi_decoder.proofs.first_least.Goals as goal
 use Rattle.viterbi_decoder.proofs.first_least.Goals.{then-metrics-s, else-metrics-s}
 
 pub loop-s-init : goal.loop-s-init
-loop-s-init c = (omega arith, ends_one _)
+loop-s-init c = ends_one _
 
 pub loop-s-preserved : goal.loop-s-preserved
-loop-s-preserved c = let inv = c.loop-s.invariant in (omega arith, elim c.if-metrics-s.branch [ then-metrics-s w ↦ rw w.best-is (ends_new _ _ _ inv.1 w.if-metrics-s.true) | else-metrics-s w ↦ rw w.best-is (ends_old _ _ _ inv.1 w.if-metrics-s.false) ])
+loop-s-preserved c = let inv = c.loop-s.invariant in elim c.if-metrics-s.branch [ then-metrics-s w ↦ rw w.best-is (ends_new _ _ _ inv w.if-metrics-s.true) | else-metrics-s w ↦ rw w.best-is (ends_old _ _ _ inv w.if-metrics-s.false) ]
 
 pub returns : goal.returns
-returns c = let e : c.loop-s.s ≡ 64 = omega arith in rw e at c.loop-s.invariant.1
+returns c = let e : c.loop-s.s ≡ 64 = omega arith in rw e at c.loop-s.invariant

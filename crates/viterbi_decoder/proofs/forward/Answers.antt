@@ -2,21 +2,21 @@
 -- Assumes nothing.
 use borrow.Author.Rules.{rules}
 use mathlib.Core.Path.{◌≡◌, sym}
+use Prim.Native.Nat.{◌+◌, ◌-◌, ◌*◌, ◌/◌, ◌%◌}
 use native.Mathlib.Omega.{arith}
 use lib.ListN.{length}
 use Rattle.viterbi_decoder.specs.Lanes.{row_costs}
-use Rattle.viterbi_decoder.proofs.Sweeps.{small_costs, in_block_none, in_block_fits, in_block_more, in_block_all, going_none, offset_le, going_first, close, going_more, going_all}
+use Rattle.viterbi_decoder.proofs.Sweeps.{small_costs, in_block_none, in_block_fits, in_block_more, in_block_all, going_none, going_begun, going_next, offset_le, going_first, close, going_more, going_all}
 use Rattle.viterbi_decoder.proofs.forward.Goals as goal
-use Rattle.viterbi_decoder.proofs.forward.Goals.{then-end-ge6, else-end-ge6}
+use Rattle.viterbi_decoder.proofs.forward.Goals.{then-block-gt0, else-block-gt0}
 
-pub loop-end-init : goal.loop-end-init
-loop-end-init c = going_none _ _ _ _ _ c.start-metrics.ensures
+pub loop-block-init : goal.loop-block-init
+loop-block-init c = going_begun (going_none _ _ _ _ _ c.start-metrics.ensures)
 
 pub loop-k-init : goal.loop-k-init
-loop-k-init c = let g = c.loop-end.invariant in in_block_none _ _ _ _ (omega (arith, g.next)) (omega (arith, g.next)) g.bounded
-
-pub overflow_cast-costs_of : goal.overflow_cast-costs_of
-overflow_cast-costs_of c = omega (arith, c.requires.4 c.loop-k.k)
+loop-k-init c =
+    let e = c.saturating_sub-from.ensures in
+    in_block_none _ _ _ _ (omega (arith, e)) (omega (arith, e)) c.loop-block.invariant.bounded
 
 pub offset_bounds-costs-steps : goal.offset_bounds-costs-steps
 offset_bounds-costs-steps c = omega (arith, c.requires.4 c.loop-k.k)
@@ -39,31 +39,31 @@ pub slice_bounds-put-end : goal.slice_bounds-put-end
 slice_bounds-put-end c = sym c.loop-k.invariant.size
 
 pub put-requires : goal.put-requires
-put-requires c = omega (arith, c.loop-k.invariant.size, c.loop-end.invariant.length_is, c.requires.5)
+put-requires c = omega (arith, c.loop-k.invariant.size, c.loop-block.invariant.length_is, c.requires.5)
 
 pub levelled-level-requires : goal.levelled-level-requires
 levelled-level-requires c =
-    let g = c.loop-end.invariant in
-    let b = c.loop-k.invariant in
+    let g = c.loop-block.invariant in
+    let b = rw c.saturating_sub-from.ensures at c.loop-k.invariant in
     let small = small_costs c.args.costs.now c.args.steps.now c.requires.0 c.requires.4 in
     (offset_le g small c.requires.2, close g small c.requires.2 (in_block_all b (omega arith)) (omega arith) (omega arith))
 
-pub loop-end-preserved : goal.loop-end-preserved
-loop-end-preserved c =
-    let b = in_block_all c.loop-k.invariant (omega arith) in
-    let g = c.loop-end.invariant in
+pub loop-block-preserved : goal.loop-block-preserved
+loop-block-preserved c =
+    let b = in_block_all (rw c.saturating_sub-from.ensures at c.loop-k.invariant) (omega arith) in
+    let g = c.loop-block.invariant in
     let small = small_costs c.args.costs.now c.args.steps.now c.requires.0 c.requires.4 in
-    let e : c.loop-k.k ≡ c.loop-end.end = omega (arith, c.loop-k.invariant.most) in
-    rw e
-    (elim c.if-end-ge6.branch [
-      | then-end-ge6 w ↦ rw (w.rows-is, w.metrics-is, w.offset-is, w.put.ensures)
-          (going_more g small c.requires.2 b (omega arith) (omega (arith, w.if-end-ge6.true)) c.loop-k.invariant.size c.requires.5 w.levelled-level.result.metrics w.levelled-level.result.offset w.levelled-level.ensures.0 w.levelled-level.ensures.1)
-      | else-end-ge6 w ↦ rw (w.rows-is, w.metrics-is, w.offset-is) (going_first g small c.requires.2 b (omega arith) (omega (arith, w.if-end-ge6.false)))
+    let e : (c.args.n % 6 + 6 * c.loop-block.block) / 6 - 1 ≡ c.loop-block.block - 1 = omega arith in
+    going_next c.loop-block.block
+    (elim c.if-block-gt0.branch [
+      | then-block-gt0 w ↦ rw (w.rows-is, w.metrics-is, w.offset-is, w.put.ensures)
+          (rw e at (going_more g small c.requires.2 b (omega arith) (omega (arith, w.if-block-gt0.true)) c.loop-k.invariant.size c.requires.5 w.levelled-level.result.metrics w.levelled-level.result.offset w.levelled-level.ensures.0 w.levelled-level.ensures.1))
+      | else-block-gt0 w ↦ rw (w.rows-is, w.metrics-is, w.offset-is) (going_first g small c.requires.2 b (omega arith) (omega (arith, w.if-block-gt0.false)))
     ])
 
 pub shape_of-rows : goal.shape_of-rows
-shape_of-rows c = c.loop-end.invariant.length_is
+shape_of-rows c = c.loop-block.invariant.length_is
 
 pub returns : goal.returns
 returns c =
-    going_all c.loop-end.invariant (small_costs c.args.costs.now c.args.steps.now c.requires.0 c.requires.4) c.requires.2 (omega arith)
+    going_all c.loop-block.invariant (small_costs c.args.costs.now c.args.steps.now c.requires.0 c.requires.4) c.requires.2 (omega arith)

@@ -53,4 +53,4 @@ returns c =
       low_chosen = c.ways_chosen-low_from.ensures;
       high_chosen = c.ways_chosen-high_from.ensures;
     } in
-    stepped _ (lanes) (costs) _ _ c.woven-next.ensures c.woven-from.ensures
+    stepped _ (lanes) (costs) _ _ c.woven.ensures c.woven-2.ensures

@@ -10,6 +10,3 @@ use Rattle.viterbi_decoder.proofs.trace.Given as goal
 
 abbrev pub invariant-loop-b : goal.invariant-loop-b
 invariant-loop-b l = (length l.output ≡ length l.initial.output) × (l.b ≤ length l.initial.output / 6) × (l.r < 64) × Whole l.rows (length l.initial.output % 6) l.b l.r l.output (reverse (traced l.rows (length l.initial.output % 6) (length l.initial.output / 6) l.end))
-
-abbrev pub decreases-loop-b : goal.decreases-loop-b
-decreases-loop-b l = l.b

@@ -1,11 +1,7 @@
 -- `viterbi_decoder::woven` meets its contract.
 -- Assumes nothing.
-use Prim.Native.Nat.{◌-◌}
 use Rattle.viterbi_decoder.proofs.Loops.{Woven}
 use Rattle.viterbi_decoder.proofs.woven.Given as goal
 
 abbrev pub invariant-loop-i : goal.invariant-loop-i
 invariant-loop-i l = Woven l.low l.high l.r l.i
-
-abbrev pub decreases-loop-i : goal.decreases-loop-i
-decreases-loop-i l = 32 - l.i

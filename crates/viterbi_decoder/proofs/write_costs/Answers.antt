@@ -14,8 +14,8 @@ pub loop-n-preserved : goal.loop-n-preserved
 loop-n-preserved c =
     written_more _ (omega arith)
     (λ i h.
-    c.coded_costs-row.ensures i h
-    ∙ ap₂ (λ (x y : ℕ). decided x y (at c.args.bits.now i)) c.zero_cost.ensures.0 c.one_cost.ensures.0)
+    c.coded_costs.ensures i h
+    ∙ ap₂ (λ (x y : ℕ). decided x y (at c.args.bits.now i)) c.saturating_sub.ensures c.one_cost.ensures.0)
     c.loop-n.invariant
 
 pub returns : goal.returns

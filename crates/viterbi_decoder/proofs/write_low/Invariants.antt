@@ -5,6 +5,3 @@ use Rattle.viterbi_decoder.proofs.write_low.Given as goal
 
 abbrev pub invariant-loop-i : goal.invariant-loop-i
 invariant-loop-i l = Lowering l.lane l.n l.place l.initial.output l.r l.i l.output
-
-abbrev pub decreases-loop-i : goal.decreases-loop-i
-decreases-loop-i l = l.i

@@ -2,7 +2,7 @@
 -- Assumes nothing.
 use mathlib.Core.Path.{◌≡◌}
 use mathlib.Core.List.{[]}
-use Prim.Native.Nat.{ℕ, ◌+◌, ◌-◌, ◌/◌, ◌%◌, ◌<◌}
+use Prim.Native.Nat.{ℕ, ◌+◌, ◌/◌, ◌%◌, ◌<◌}
 use lib.ListN.{get_or}
 use Rattle.convolutional_code.specs.Costs.{at}
 use Rattle.viterbi_decoder.proofs.Butterfly.{Written}
@@ -10,6 +10,3 @@ use Rattle.viterbi_decoder.proofs.write_sums.Given as goal
 
 abbrev pub invariant-loop-n : goal.invariant-loop-n
 invariant-loop-n l = Written (λ k row. (i : ℕ) → i < 64 → at row i ≡ at (get_or l.xs (k / 9) []) i + at (get_or l.ys (k % 9) []) i) 81 l.rows l.n
-
-abbrev pub decreases-loop-n : goal.decreases-loop-n
-decreases-loop-n l = 81 - l.n

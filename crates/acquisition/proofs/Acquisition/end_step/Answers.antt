@@ -1,7 +1,7 @@
 -- `acquisition::Acquisition::end_step` meets its contract.
 -- Assumes nothing.
 use mathlib.Core.Path.{refl, sym, subst}
-use mathlib.Core.Bool.{false}
+use Rattle.std.specs.Prelude.{None}
 use native.Mathlib.Omega.{arith}
 use Rattle.acquisition.specs.Step.{AcquisitionReady}
 use Rattle.acquisition.specs.End.{EndsPending, EndsRuns, EndCounts, no_reading, pending_end, runs_end, blocks_end}
@@ -16,7 +16,7 @@ pub pending_step-step-requires : goal.pending_step-step-requires
 pending_step-step-requires c = ((phase_of_lem c.args.self Reads c.in-Reads.is c.requires.phase_ready), c.requires.counts, c.if-held-gt0.true)
 
 pub returns-then-held-gt0 : goal.returns-then-held-gt0
-returns-then-held-gt0 c = let x : EndsPending c.args.self (record { acquisition = c.pending_step-step.result.acquisition; event = c.pending_step-step.result.event; block = c.pending_step-step.result.block; over = false; left = 0 }) = record { step = c.pending_step-step.result; reads = c.pending_step-step.ensures.0; result = refl } in (pending_end c.in-Reads.is c.if-held-gt0.true x, c.pending_step-step.ensures.1, pending_end_counts c.args.self _ (phase_of_lem c.args.self Reads c.in-Reads.is c.requires.phase_ready) c.in-Reads.is c.if-held-gt0.true x)
+returns-then-held-gt0 c = let x : EndsPending c.args.self (record { acquisition = c.pending_step-step.result.acquisition; event = c.pending_step-step.result.event; over = None }) = record { step = c.pending_step-step.result; reads = c.pending_step-step.ensures.0; result = refl } in (pending_end c.in-Reads.is c.if-held-gt0.true x, c.pending_step-step.ensures.1, pending_end_counts c.args.self _ (phase_of_lem c.args.self Reads c.in-Reads.is c.requires.phase_ready) c.in-Reads.is c.if-held-gt0.true x)
 
 pub close_runs-step-requires : goal.close_runs-step-requires
 close_runs-step-requires c = (phase_of_lem c.args.self Reads c.in-Reads.is c.requires.phase_ready).reading_of.ready

@@ -1,33 +1,15 @@
 -- `branch_metrics::depuncturing::spread_places` meets its contract: proofs/Facts.antt has what holds as the loop goes.
 -- Assumes nothing.
-use native.Mathlib.Omega.{arith}
 use Rattle.branch_metrics.proofs.Facts.{spreading_none, spreading_more, in_pattern, asks, table_is}
 use Rattle.branch_metrics.proofs.depuncturing.spread_places.Goals as goal
 
 pub loop-k-init : goal.loop-k-init
 loop-k-init c = spreading_none _ _ _ _
 
-pub overflow_mul-q : goal.overflow_mul-q
-overflow_mul-q c = omega (arith, c.requires.0)
-
-pub overflow_add-q : goal.overflow_add-q
-overflow_add-q c = omega (arith, (in_pattern _ _ _ _ c.loop-k.invariant c.requires.1 c.requires.2).1)
-
-pub bounds-kinds-rate : goal.bounds-kinds-rate
-bounds-kinds-rate c = omega (arith, (in_pattern _ _ _ _ c.loop-k.invariant c.requires.1 c.requires.2).1)
-
 pub step_of-step-requires : goal.step_of-step-requires
 step_of-step-requires c =
     let i = (in_pattern _ _ _ _ c.loop-k.invariant c.requires.1 c.requires.2).0 in
-    let a = asks _ _ _ _ c.loop-k.invariant c.loop-k-test.true c.requires.0 i c.requires.4 _ (table_is _ _ c.requires.0 i) in
-    (a.0, a.1, a.2, c.requires.6)
-
-pub bounds-output-k : goal.bounds-output-k
-bounds-output-k c = omega (arith, c.loop-k.invariant.written.len)
-
-pub following-place-requires : goal.following-place-requires
-following-place-requires c =
-    ((in_pattern _ _ _ _ c.loop-k.invariant c.requires.1 c.requires.2).1, c.requires.3)
+    (asks _ _ _ _ c.loop-k.invariant c.loop-k-test.true c.requires.4 _ (table_is _ _ c.requires.0 i), c.requires.6)
 
 pub loop-k-preserved : goal.loop-k-preserved
 loop-k-preserved c =
@@ -35,9 +17,3 @@ loop-k-preserved c =
     let f = c.step_of-step.ensures in
     rw (c.following-place.ensures, c.requires.1)
     (spreading_more _ _ _ l.invariant c.loop-k-test.true c.requires.5 _ _ _ (table_is _ _ c.requires.0 (in_pattern _ _ _ _ l.invariant c.requires.1 c.requires.2).0) f.0 f.1)
-
-pub shape_of-output : goal.shape_of-output
-shape_of-output c = c.loop-k.invariant.written.len
-
-pub returns : goal.returns
-returns c = (c.loop-k.invariant.written.len, λ t h. c.loop-k.invariant.written.each t (omega arith))

@@ -1,20 +1,14 @@
 -- `branch_metrics::soft_decision::sixteen_decisions` meets its contract.
 -- Assumes nothing.
 use mathlib.Core.Bool.{cond}
-use mathlib.Core.Path.{refl, ◌∙◌, ap}
+use mathlib.Core.Path.{◌∙◌, ap}
 use Prim.Native.Nat.{ℕ, ◌+◌, ◌<◌}
 use native.Mathlib.Omega.{arith}
 use lib.Ieee.{nan, is_nan}
 use lib.ListN.{get_or}
-use Rattle.common.proofs.Each.{each_none, each_more, each_all}
+use Rattle.common.proofs.Each.{each_more}
 use Rattle.branch_metrics.specs.SoftPairs.{number_decision, marked}
 use Rattle.branch_metrics.proofs.soft_decision.sixteen_decisions.Goals as goal
-
-pub loop-i-init : goal.loop-i-init
-loop-i-init c = each_none refl
-
-pub decision-requires : goal.decision-requires
-decision-requires c = (c.sixteen_levels-levels.ensures c.loop-i.i (omega arith)).1
 
 pub loop-i-preserved : goal.loop-i-preserved
 unfolding number_decision
@@ -27,6 +21,3 @@ loop-i-preserved c =
           (c.sixteen_levels-levels.ensures l.i h).0,
       c.decision.ensures.1,
     ) l.invariant
-
-pub returns : goal.returns
-returns c = each_all (omega arith) c.loop-i.invariant

@@ -8,54 +8,6 @@ use lib.ListN.{get_or, get_or-replicate}
 use Rattle.branch_metrics.specs.Level.{level_of}
 use Rattle.branch_metrics.proofs.soft_decision.sixteen_levels.Goals as goal
 
-pub raised-one-requires : goal.raised-one-requires
-raised-one-requires c = (c.requires, λ i h. omega (arith, get_or-replicate {A = ℕ} 16 i 0 0 h))
-
-pub raised-two-requires : goal.raised-two-requires
-raised-two-requires c =
-    let one_le : (i : ℕ) → i < 16 → get_or c.raised-one.result i 0 ≤ 1 = λ i h. omega (arith, (c.raised-one.ensures i h).1, get_or-replicate {A = ℕ} 16 i 0 0 h) in
-    (c.requires, λ i h. omega (arith, one_le i h))
-
-pub raised-three-requires : goal.raised-three-requires
-raised-three-requires c =
-    let one_le : (i : ℕ) → i < 16 → get_or c.raised-one.result i 0 ≤ 1 = λ i h. omega (arith, (c.raised-one.ensures i h).1, get_or-replicate {A = ℕ} 16 i 0 0 h) in
-    let two_le : (i : ℕ) → i < 16 → get_or c.raised-two.result i 0 ≤ 2 = λ i h. omega (arith, (c.raised-two.ensures i h).1, one_le i h) in
-    (c.requires, λ i h. omega (arith, two_le i h))
-
-pub raised-four-requires : goal.raised-four-requires
-raised-four-requires c =
-    let one_le : (i : ℕ) → i < 16 → get_or c.raised-one.result i 0 ≤ 1 = λ i h. omega (arith, (c.raised-one.ensures i h).1, get_or-replicate {A = ℕ} 16 i 0 0 h) in
-    let two_le : (i : ℕ) → i < 16 → get_or c.raised-two.result i 0 ≤ 2 = λ i h. omega (arith, (c.raised-two.ensures i h).1, one_le i h) in
-    let three_le : (i : ℕ) → i < 16 → get_or c.raised-three.result i 0 ≤ 3 = λ i h. omega (arith, (c.raised-three.ensures i h).1, two_le i h) in
-    (c.requires, λ i h. omega (arith, three_le i h))
-
-pub raised-five-requires : goal.raised-five-requires
-raised-five-requires c =
-    let one_le : (i : ℕ) → i < 16 → get_or c.raised-one.result i 0 ≤ 1 = λ i h. omega (arith, (c.raised-one.ensures i h).1, get_or-replicate {A = ℕ} 16 i 0 0 h) in
-    let two_le : (i : ℕ) → i < 16 → get_or c.raised-two.result i 0 ≤ 2 = λ i h. omega (arith, (c.raised-two.ensures i h).1, one_le i h) in
-    let three_le : (i : ℕ) → i < 16 → get_or c.raised-three.result i 0 ≤ 3 = λ i h. omega (arith, (c.raised-three.ensures i h).1, two_le i h) in
-    let four_le : (i : ℕ) → i < 16 → get_or c.raised-four.result i 0 ≤ 4 = λ i h. omega (arith, (c.raised-four.ensures i h).1, three_le i h) in
-    (c.requires, λ i h. omega (arith, four_le i h))
-
-pub raised-six-requires : goal.raised-six-requires
-raised-six-requires c =
-    let one_le : (i : ℕ) → i < 16 → get_or c.raised-one.result i 0 ≤ 1 = λ i h. omega (arith, (c.raised-one.ensures i h).1, get_or-replicate {A = ℕ} 16 i 0 0 h) in
-    let two_le : (i : ℕ) → i < 16 → get_or c.raised-two.result i 0 ≤ 2 = λ i h. omega (arith, (c.raised-two.ensures i h).1, one_le i h) in
-    let three_le : (i : ℕ) → i < 16 → get_or c.raised-three.result i 0 ≤ 3 = λ i h. omega (arith, (c.raised-three.ensures i h).1, two_le i h) in
-    let four_le : (i : ℕ) → i < 16 → get_or c.raised-four.result i 0 ≤ 4 = λ i h. omega (arith, (c.raised-four.ensures i h).1, three_le i h) in
-    let five_le : (i : ℕ) → i < 16 → get_or c.raised-five.result i 0 ≤ 5 = λ i h. omega (arith, (c.raised-five.ensures i h).1, four_le i h) in
-    (c.requires, λ i h. omega (arith, five_le i h))
-
-pub raised-requires : goal.raised-requires
-raised-requires c =
-    let one_le : (i : ℕ) → i < 16 → get_or c.raised-one.result i 0 ≤ 1 = λ i h. omega (arith, (c.raised-one.ensures i h).1, get_or-replicate {A = ℕ} 16 i 0 0 h) in
-    let two_le : (i : ℕ) → i < 16 → get_or c.raised-two.result i 0 ≤ 2 = λ i h. omega (arith, (c.raised-two.ensures i h).1, one_le i h) in
-    let three_le : (i : ℕ) → i < 16 → get_or c.raised-three.result i 0 ≤ 3 = λ i h. omega (arith, (c.raised-three.ensures i h).1, two_le i h) in
-    let four_le : (i : ℕ) → i < 16 → get_or c.raised-four.result i 0 ≤ 4 = λ i h. omega (arith, (c.raised-four.ensures i h).1, three_le i h) in
-    let five_le : (i : ℕ) → i < 16 → get_or c.raised-five.result i 0 ≤ 5 = λ i h. omega (arith, (c.raised-five.ensures i h).1, four_le i h) in
-    let six_le : (i : ℕ) → i < 16 → get_or c.raised-six.result i 0 ≤ 6 = λ i h. omega (arith, (c.raised-six.ensures i h).1, five_le i h) in
-    (c.requires, λ i h. omega (arith, six_le i h))
-
 pub returns : goal.returns
 unfolding level_of of_bits neg
 returns c =

@@ -7,10 +7,6 @@ use lib.ListN.{get_or}
 use Rattle.branch_metrics.proofs.Runs.{place_pair}
 use Rattle.branch_metrics.proofs.soft_decision.sixteen_pairs.Goals as goal
 
-pub paired-requires : goal.paired-requires
-paired-requires c =
-    λ k h. ((c.sixteen_decisions-a.ensures k h).1, (c.sixteen_decisions-b.ensures k h).1)
-
 pub returns : goal.returns
 returns c =
     λ k h.

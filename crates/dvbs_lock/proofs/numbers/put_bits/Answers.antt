@@ -13,10 +13,6 @@ pub loop-k-init : goal.loop-k-init
 loop-k-init c =
     bits_none _ _
 
-pub bounds-bytes-k : goal.bounds-bytes-k
-bounds-bytes-k c =
-    omega (arith, c.loop-k-test.true)
-
 pub overflow_mul-k : goal.overflow_mul-k
 overflow_mul-k c =
     omega (arith, c.loop-k-test.true, c.requires, c.loop-k.invariant.size)
@@ -25,21 +21,9 @@ pub put_byte-requires : goal.put_byte-requires
 put_byte-requires c =
     omega (arith, c.loop-k-test.true, c.requires, c.loop-k.invariant.size)
 
-pub overflow_add-k : goal.overflow_add-k
-overflow_add-k c =
-    omega (arith, c.loop-k-test.true)
-
-pub loop-k-smaller : goal.loop-k-smaller
-loop-k-smaller c =
-    omega (arith, c.loop-k-test.true)
-
 pub loop-k-preserved : goal.loop-k-preserved
 loop-k-preserved c =
     bits_more c.loop-k.invariant c.loop-k-test.true c.requires refl c.put_byte.ensures
-
-pub shape_of-output : goal.shape_of-output
-shape_of-output c =
-    c.loop-k.invariant.size
 
 pub returns : goal.returns
 returns c =

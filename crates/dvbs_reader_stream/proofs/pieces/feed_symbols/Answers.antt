@@ -15,12 +15,12 @@ loop-at-init c = (fed_none c.args.stream c.requires.0 (map hard_pair c.args.symb
 
 pub overflow_add-end : goal.overflow_add-end
 overflow_add-end c =
-    let next : (0 < c.least-some.result) × (c.least-some.result ≤ 1632) × (c.loop-at.at + c.least-some.result ≤ length c.args.symbols.now) = (omega (arith, c.least-some.ensures), omega (arith, c.least-some.ensures), omega (arith, c.least-some.ensures)) in
+    let next : (0 < c.min-some.result) × (c.min-some.result ≤ 1632) × (c.loop-at.at + c.min-some.result ≤ length c.args.symbols.now) = (omega (arith, c.min-some.ensures), omega (arith, c.min-some.ensures), omega (arith, c.min-some.ensures)) in
     omega (arith, (next).2, c.well_formed)
 
 pub slice_bounds-hard_pairs-end : goal.slice_bounds-hard_pairs-end
 slice_bounds-hard_pairs-end c =
-    let next : (0 < c.least-some.result) × (c.least-some.result ≤ 1632) × (c.loop-at.at + c.least-some.result ≤ length c.args.symbols.now) = (omega (arith, c.least-some.ensures), omega (arith, c.least-some.ensures), omega (arith, c.least-some.ensures)) in
+    let next : (0 < c.min-some.result) × (c.min-some.result ≤ 1632) × (c.loop-at.at + c.min-some.result ≤ length c.args.symbols.now) = (omega (arith, c.min-some.ensures), omega (arith, c.min-some.ensures), omega (arith, c.min-some.ensures)) in
     omega (arith, (next).2)
 
 pub slice_bounds-hard_pairs-end-in-loop-at : goal.slice_bounds-hard_pairs-end-in-loop-at
@@ -28,22 +28,22 @@ slice_bounds-hard_pairs-end-in-loop-at c = sym c.loop-at.invariant.1
 
 pub hard_pairs-requires : goal.hard_pairs-requires
 hard_pairs-requires c =
-    let next : (0 < c.least-some.result) × (c.least-some.result ≤ 1632) × (c.loop-at.at + c.least-some.result ≤ length c.args.symbols.now) = (omega (arith, c.least-some.ensures), omega (arith, c.least-some.ensures), omega (arith, c.least-some.ensures)) in
+    let next : (0 < c.min-some.result) × (c.min-some.result ≤ 1632) × (c.loop-at.at + c.min-some.result ≤ length c.args.symbols.now) = (omega (arith, c.min-some.ensures), omega (arith, c.min-some.ensures), omega (arith, c.min-some.ensures)) in
     let at = c.loop-at.at in
-    let end = at + c.least-some.result in
+    let end = at + c.min-some.result in
     (part_valid at (end - at) c.args.symbols.now (omega (arith, (next).2)) c.requires.1, omega (arith, length-take-le (end - at) (drop at c.args.symbols.now) (omega (arith, length-drop at c.args.symbols.now, (next).2)), (next).1, c.loop-at.invariant.1))
 
 pub slice_bounds-pairs-end : goal.slice_bounds-pairs-end
 slice_bounds-pairs-end c =
-    let next : (0 < c.least-some.result) × (c.least-some.result ≤ 1632) × (c.loop-at.at + c.least-some.result ≤ length c.args.symbols.now) = (omega (arith, c.least-some.ensures), omega (arith, c.least-some.ensures), omega (arith, c.least-some.ensures)) in
-    let long : c.least-some.result ≤ length c.hard_pairs.new.output = omega (arith, (next).1, c.loop-at.invariant.1, c.hard_pairs.auto) in
+    let next : (0 < c.min-some.result) × (c.min-some.result ≤ 1632) × (c.loop-at.at + c.min-some.result ≤ length c.args.symbols.now) = (omega (arith, c.min-some.ensures), omega (arith, c.min-some.ensures), omega (arith, c.min-some.ensures)) in
+    let long : c.min-some.result ≤ length c.hard_pairs.new.output = omega (arith, (next).1, c.loop-at.invariant.1, c.hard_pairs.auto) in
     long
 
 pub slice_bounds-feed-end : goal.slice_bounds-feed-end
 slice_bounds-feed-end c =
-    let next : (0 < c.least-some.result) × (c.least-some.result ≤ 1632) × (c.loop-at.at + c.least-some.result ≤ length c.args.symbols.now) = (omega (arith, c.least-some.ensures), omega (arith, c.least-some.ensures), omega (arith, c.least-some.ensures)) in
-    let long : c.least-some.result ≤ length c.hard_pairs.new.output = omega (arith, (next).1, c.loop-at.invariant.1, c.hard_pairs.auto) in
-    let part_size : length (take c.least-some.result c.hard_pairs.new.output) ≡ c.least-some.result = length-take-le c.least-some.result c.hard_pairs.new.output (long) in
+    let next : (0 < c.min-some.result) × (c.min-some.result ≤ 1632) × (c.loop-at.at + c.min-some.result ≤ length c.args.symbols.now) = (omega (arith, c.min-some.ensures), omega (arith, c.min-some.ensures), omega (arith, c.min-some.ensures)) in
+    let long : c.min-some.result ≤ length c.hard_pairs.new.output = omega (arith, (next).1, c.loop-at.invariant.1, c.hard_pairs.auto) in
+    let part_size : length (take c.min-some.result c.hard_pairs.new.output) ≡ c.min-some.result = length-take-le c.min-some.result c.hard_pairs.new.output (long) in
     sym (part_size)
 
 pub slice_bounds-feed-end-in-loop-at : goal.slice_bounds-feed-end-in-loop-at
@@ -57,12 +57,12 @@ slice_bounds-feed-start c = within c.requires.0 (omega (arith, c.requires.2, len
 
 pub feed-fed-requires : goal.feed-fed-requires
 feed-fed-requires c =
-    let next : (0 < c.least-some.result) × (c.least-some.result ≤ 1632) × (c.loop-at.at + c.least-some.result ≤ length c.args.symbols.now) = (omega (arith, c.least-some.ensures), omega (arith, c.least-some.ensures), omega (arith, c.least-some.ensures)) in
-    let long : c.least-some.result ≤ length c.hard_pairs.new.output = omega (arith, (next).1, c.loop-at.invariant.1, c.hard_pairs.auto) in
-    let part_size : length (take c.least-some.result c.hard_pairs.new.output) ≡ c.least-some.result = length-take-le c.least-some.result c.hard_pairs.new.output (long) in
+    let next : (0 < c.min-some.result) × (c.min-some.result ≤ 1632) × (c.loop-at.at + c.min-some.result ≤ length c.args.symbols.now) = (omega (arith, c.min-some.ensures), omega (arith, c.min-some.ensures), omega (arith, c.min-some.ensures)) in
+    let long : c.min-some.result ≤ length c.hard_pairs.new.output = omega (arith, (next).1, c.loop-at.invariant.1, c.hard_pairs.auto) in
+    let part_size : length (take c.min-some.result c.hard_pairs.new.output) ≡ c.min-some.result = length-take-le c.min-some.result c.hard_pairs.new.output (long) in
     let f = c.loop-at.invariant.0 in (
       f.feeds.ready,
-      hard_small c.loop-at.at c.least-some.result c.hard_pairs.new.output (long) c.args.symbols.now (next).2 (c.loop-at.at + c.least-some.result - c.loop-at.at) (omega arith) c.hard_pairs.ensures c.requires.1,
+      hard_small c.loop-at.at c.min-some.result c.hard_pairs.new.output (long) c.args.symbols.now (next).2 (c.loop-at.at + c.min-some.result - c.loop-at.at) (omega arith) c.hard_pairs.ensures c.requires.1,
       omega (arith, c.loop-at.invariant.2),
       room_left c.requires.0 (omega (arith, c.requires.2, length-map c.args.symbols.now hard_pair)) f _ (omega (arith, part_size, (next).2, length-map c.args.symbols.now hard_pair)),
     )
@@ -72,15 +72,15 @@ overflow_add-count c = omega (arith, c.well_formed, c.loop-at.invariant.0.same, 
 
 pub loop-at-smaller : goal.loop-at-smaller
 loop-at-smaller c =
-    let next : (0 < c.least-some.result) × (c.least-some.result ≤ 1632) × (c.loop-at.at + c.least-some.result ≤ length c.args.symbols.now) = (omega (arith, c.least-some.ensures), omega (arith, c.least-some.ensures), omega (arith, c.least-some.ensures)) in
+    let next : (0 < c.min-some.result) × (c.min-some.result ≤ 1632) × (c.loop-at.at + c.min-some.result ≤ length c.args.symbols.now) = (omega (arith, c.min-some.ensures), omega (arith, c.min-some.ensures), omega (arith, c.min-some.ensures)) in
     let n = next in omega (arith, n.0, n.2)
 
 pub loop-at-preserved : goal.loop-at-preserved
 loop-at-preserved c =
-    let next : (0 < c.least-some.result) × (c.least-some.result ≤ 1632) × (c.loop-at.at + c.least-some.result ≤ length c.args.symbols.now) = (omega (arith, c.least-some.ensures), omega (arith, c.least-some.ensures), omega (arith, c.least-some.ensures)) in
-    let long : c.least-some.result ≤ length c.hard_pairs.new.output = omega (arith, (next).1, c.loop-at.invariant.1, c.hard_pairs.auto) in
-    let part_is : take c.least-some.result c.hard_pairs.new.output ≡ take c.least-some.result (drop c.loop-at.at (map hard_pair c.args.symbols.now)) = hard_part c.loop-at.at c.least-some.result c.hard_pairs.new.output (long) c.args.symbols.now (next).2 (c.loop-at.at + c.least-some.result - c.loop-at.at) (omega arith) c.hard_pairs.ensures in (
-      fed_more c.requires.0 (omega (arith, c.requires.2, length-map c.args.symbols.now hard_pair)) c.loop-at.invariant.0 _ c.least-some.result (part_is) (omega (arith, (next).2, length-map c.args.symbols.now hard_pair)) c.feed-fed.ensures c.feed-fed.auto.output,
+    let next : (0 < c.min-some.result) × (c.min-some.result ≤ 1632) × (c.loop-at.at + c.min-some.result ≤ length c.args.symbols.now) = (omega (arith, c.min-some.ensures), omega (arith, c.min-some.ensures), omega (arith, c.min-some.ensures)) in
+    let long : c.min-some.result ≤ length c.hard_pairs.new.output = omega (arith, (next).1, c.loop-at.invariant.1, c.hard_pairs.auto) in
+    let part_is : take c.min-some.result c.hard_pairs.new.output ≡ take c.min-some.result (drop c.loop-at.at (map hard_pair c.args.symbols.now)) = hard_part c.loop-at.at c.min-some.result c.hard_pairs.new.output (long) c.args.symbols.now (next).2 (c.loop-at.at + c.min-some.result - c.loop-at.at) (omega arith) c.hard_pairs.ensures in (
+      fed_more c.requires.0 (omega (arith, c.requires.2, length-map c.args.symbols.now hard_pair)) c.loop-at.invariant.0 _ c.min-some.result (part_is) (omega (arith, (next).2, length-map c.args.symbols.now hard_pair)) c.feed-fed.ensures c.feed-fed.auto.output,
       omega (arith, c.loop-at.invariant.1, c.hard_pairs.auto),
       c.feed-fed.auto.bits ∙ c.loop-at.invariant.2,
     )

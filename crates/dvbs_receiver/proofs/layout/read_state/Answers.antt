@@ -12,4 +12,4 @@ pub returns : goal.returns
 unfolding state_of
 returns c =
     let bytes = c.args.bytes.now in
-    λ i. record { receiver = c.read_state-receiver.ensures i; pending = c.block_at-pending.ensures i; marks = c.block_at-marks.ensures i; held = get_or bytes 2730 0 }
+    λ i. record { receiver = c.read_state-receiver.ensures i; pending = c.array_at-pending.ensures i; marks = c.array_at-marks.ensures i; held = get_or bytes 2730 0 }

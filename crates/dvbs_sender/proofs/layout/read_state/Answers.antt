@@ -10,6 +10,6 @@ returns c =
     let bytes = c.args.bytes.now in
     λ i. record {
       place = get_or bytes 1134 0;
-      interleaver = record { branches = record { cells = c.cells_at-cells.ensures i; positions = c.positions_at-positions.ensures i } };
+      interleaver = record { branches = record { cells = c.array_at-cells.ensures i; positions = c.array_at-positions.ensures i } };
       coder = record { rate = get_or bytes 1135 0; memory = get_or bytes 1136 0; place = get_or bytes 1137 0; held = get_or bytes 1138 0 };
     }

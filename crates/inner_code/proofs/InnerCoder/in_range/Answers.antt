@@ -8,12 +8,9 @@ use Rattle.puncturing.proofs.Places.{lengths, length_is}
 use Rattle.inner_code.specs.Step.{in_range_by}
 use Rattle.inner_code.proofs.InnerCoder.in_range.Goals as goal
 
-pub returns-then-rate-ge-MODES : goal.returns-then-rate-ge-MODES
-returns-then-rate-ge-MODES c = simp (le-ltb _ _ c.if-rate-ge-MODES.true)
-
-pub returns-then-memory-ge64 : goal.returns-then-memory-ge64
+pub returns-then-self-ge64 : goal.returns-then-self-ge64
 unfolding in_range_by
-returns-then-memory-ge64 c = simp (lt-ltb _ _ c.if-rate-ge-MODES.false, le-ltb _ _ c.if-memory-ge64.true)
+returns-then-self-ge64 c = simp (lt-ltb _ _ c.if-rate-ge-MODES.false, le-ltb _ _ c.if-self-ge64.true)
 
 pub returns-then-place-lengths : goal.returns-then-place-lengths
 unfolding in_range_by
@@ -21,7 +18,7 @@ returns-then-place-lengths c =
     let outside_pattern : let a = c.args.self in pattern_length a.rate ≤ a.place = let a = c.args.self in
     let h : get_or lengths a.rate 0 ≤ a.place = c.if-place-lengths.true in
     rw (length_is a.rate c.if-rate-ge-MODES.false) at h in
-    simp (lt-ltb _ _ c.if-rate-ge-MODES.false, lt-ltb _ _ c.if-memory-ge64.false, le-ltb _ _ (outside_pattern))
+    simp (lt-ltb _ _ c.if-rate-ge-MODES.false, lt-ltb _ _ c.if-self-ge64.false, le-ltb _ _ (outside_pattern))
 
 pub held_count-requires : goal.held_count-requires
 held_count-requires c =
@@ -36,4 +33,4 @@ returns c =
     let in_pattern : let a = c.args.self in a.place < pattern_length a.rate = let a = c.args.self in
     let h : a.place < get_or lengths a.rate 0 = c.if-place-lengths.false in
     rw (length_is a.rate c.if-rate-ge-MODES.false) at h in
-    rw c.held_count.ensures (simp (lt-ltb _ _ c.if-rate-ge-MODES.false, lt-ltb _ _ c.if-memory-ge64.false, lt-ltb _ _ (in_pattern)))
+    rw c.held_count.ensures (simp (lt-ltb _ _ c.if-rate-ge-MODES.false, lt-ltb _ _ c.if-self-ge64.false, lt-ltb _ _ (in_pattern)))

@@ -15,8 +15,3 @@ block_count-requires c =
     let a = c.args.self in
     let g = in_range_lem a (good) in
     (rate_known a g, g.place)
-
-pub returns : goal.returns
-returns c =
-    let good : coder_in_range c.args.self ≡ true = sym c.in_range.ensures ∙ c.if-not-in_range.false in
-    simp (sym (range_by_mode c.args.self) ∙ good) c.block_count.ensures

@@ -1,13 +1,9 @@
 -- `inner_code::grouped::encoded_bytes` meets its contract.
 -- Assumes nothing.
-use Prim.Native.Nat.{◌-◌, ◌≤◌}
 use lib.ListN.{length}
 use Rattle.common.proofs.Written.{Written}
 use Rattle.inner_code.specs.Groups.{firsts}
 use Rattle.inner_code.proofs.grouped.encoded_bytes.Given as goal
 
 abbrev pub invariant-loop-i : goal.invariant-loop-i
-invariant-loop-i l = (l.i ≤ length l.initial.bytes) × Written 0 l.initial.bytes (firsts l.size (length l.initial.bytes) l.block) l.bytes l.i
-
-abbrev pub decreases-loop-i : goal.decreases-loop-i
-decreases-loop-i l = length l.initial.bytes - l.i
+invariant-loop-i l = Written 0 l.initial.bytes (firsts l.size (length l.initial.bytes) l.block) l.bytes l.i

@@ -2,7 +2,7 @@
 -- Assumes nothing.
 use mathlib.Core.Path.{◌≡◌}
 use mathlib.Core.List.{List}
-use Prim.Native.Nat.{ℕ, suc, ◌+◌, ◌-◌, ◌*◌, ◌≤◌}
+use Prim.Native.Nat.{ℕ, suc, ◌+◌, ◌*◌}
 use lib.ListN.{length, get_or}
 use Rattle.inner_code.specs.Groups.{joined, digit_list}
 use Rattle.inner_code.proofs.Groups.{Filled}
@@ -13,7 +13,4 @@ abbrev pub group : List ℕ → ℕ → ℕ → ℕ → ℕ → List ℕ
 group block others base per i = joined others (λ j. digit_list base per (get_or block ((others + 1) * i + suc j) 0))
 
 abbrev pub invariant-loop-i : goal.invariant-loop-i
-invariant-loop-i l = (l.i ≤ l.groups) × (length l.uncoded ≡ 8 * l.groups) × Filled 8 (group l.block l.others l.base l.per) l.uncoded l.i
-
-abbrev pub decreases-loop-i : goal.decreases-loop-i
-decreases-loop-i l = l.groups - l.i
+invariant-loop-i l = (length l.uncoded ≡ 8 * l.groups) × Filled 8 (group l.block l.others l.base l.per) l.uncoded l.i

@@ -6,6 +6,3 @@ use Rattle.inner_code.proofs.grouped.unpack_byte.Given as goal
 
 abbrev pub invariant-loop-k : goal.invariant-loop-k
 invariant-loop-k l = Cutting l.base l.b (length l.initial.output) l.output l.rest l.k
-
-abbrev pub decreases-loop-k : goal.decreases-loop-k
-decreases-loop-k l = l.k

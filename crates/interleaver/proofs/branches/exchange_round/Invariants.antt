@@ -2,7 +2,6 @@
 -- Assumes nothing.
 use mathlib.Core.Path.{◌≡◌}
 use mathlib.Core.List.{◌++◌}
-use Prim.Native.Nat.{◌-◌, ◌≤◌}
 use lib.ListN.{length, take}
 use Rattle.interleaver.specs.Branch.{turned}
 use Rattle.interleaver.specs.Column.{column}
@@ -11,7 +10,4 @@ use Rattle.interleaver.proofs.Rings.{Turning}
 use Rattle.interleaver.proofs.branches.exchange_round.Given as goal
 
 abbrev pub invariant-loop-k : goal.invariant-loop-k
-invariant-loop-k l = (l.k ≤ 17) × (l.size ≡ length l.initial.cells) × Turning l.initial.cells l.position (column l.j l.block) l.cells l.p l.k × Placing l.j (take 17 (turned l.position l.initial.cells ++ column l.j l.block)) l.initial.output l.output l.k
-
-abbrev pub decreases-loop-k : goal.decreases-loop-k
-decreases-loop-k l = 17 - l.k
+invariant-loop-k l = (l.size ≡ length l.initial.cells) × Turning l.initial.cells l.position (column l.j l.block) l.cells l.p l.k × Placing l.j (take 17 (turned l.position l.initial.cells ++ column l.j l.block)) l.initial.output l.output l.k

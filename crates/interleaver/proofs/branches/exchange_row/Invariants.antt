@@ -1,7 +1,6 @@
 -- `interleaver::branches::exchange_row` meets its contract.
 -- Assumes nothing.
 use mathlib.Core.List.{◌++◌}
-use Prim.Native.Nat.{◌-◌, ◌≤◌}
 use lib.ListN.{length, take}
 use Rattle.interleaver.specs.Branch.{turned}
 use Rattle.interleaver.specs.Block.{position_advanced}
@@ -11,7 +10,4 @@ use Rattle.interleaver.proofs.Rings.{Turning}
 use Rattle.interleaver.proofs.branches.exchange_row.Given as goal
 
 abbrev pub invariant-loop-k : goal.invariant-loop-k
-invariant-loop-k l = (l.k ≤ 17) × Turning l.initial.cells l.position (column l.j l.block) l.cells (position_advanced (length l.initial.cells) l.position l.k) l.k × Placing l.j (take 17 (turned l.position l.initial.cells ++ column l.j l.block)) l.initial.output l.output l.k
-
-abbrev pub decreases-loop-k : goal.decreases-loop-k
-decreases-loop-k l = 17 - l.k
+invariant-loop-k l = Turning l.initial.cells l.position (column l.j l.block) l.cells (position_advanced (length l.initial.cells) l.position l.k) l.k × Placing l.j (take 17 (turned l.position l.initial.cells ++ column l.j l.block)) l.initial.output l.output l.k

@@ -3,13 +3,11 @@
 use mathlib.Core.Path.{◌∙◌, ap, sym}
 use mathlib.Core.List.{List}
 use Prim.Native.Nat.{ℕ}
-use native.Mathlib.Omega.{arith}
 use borrow.Author.Tests.{ne_eqb}
-use lib.ListN.{length}
 use Rattle.interleaver.specs.Column.{column, scattered}
 use Rattle.interleaver.specs.Block.{position_after}
 use Rattle.interleaver.proofs.Columns.{length_column}
-use Rattle.interleaver.proofs.Rings.{through, advanced_small}
+use Rattle.interleaver.proofs.Rings.{through}
 use Rattle.interleaver.proofs.branches.pass_column.Goals as goal
 
 pub returns-then-cells-eq0 : goal.returns-then-cells-eq0
@@ -17,18 +15,6 @@ returns-then-cells-eq0 c =
     let a = c.args in
     let e = through a.position a.cells.now (column a.j a.block.now) c.if-cells-eq0.true (length_column a.j a.block.now) in
     (e.0, e.1, c.copy_column.ensures ∙ ap (λ (l : List ℕ). scattered a.j l a.output.now) e.2)
-
-pub exchange_column-requires : goal.exchange_column-requires
-exchange_column-requires c =
-    let n = c.requires.0 c.if-cells-eq0.false in
-    (n, omega arith, c.requires.3, c.requires.4, c.requires.5)
-
-pub overflow_cast-result : goal.overflow_cast-result
-overflow_cast-result c =
-    let n = c.requires.0 c.if-cells-eq0.false in
-    let e = c.exchange_column.ensures.0 in
-    let l = advanced_small (length c.args.cells.now) c.args.position 17 (omega arith) n in
-    omega arith
 
 pub returns : goal.returns
 unfolding position_after

@@ -1,12 +1,8 @@
 -- `kernels::code::code_blocks` meets its contract.
 -- Assumes nothing.
-use Prim.Native.Nat.{◌-◌}
-use lib.ListN.{length}
+use Prim.Native.Nat.{◌*◌}
 use Rattle.kernels.proofs.Codes.{Coding}
 use Rattle.kernels.proofs.code.code_blocks.Given as goal
 
-abbrev pub invariant-loop-at : goal.invariant-loop-at
-invariant-loop-at l = Coding l.rate l.blocks l.initial.output l.output l.coder l.at l.count
-
-abbrev pub decreases-loop-at : goal.decreases-loop-at
-decreases-loop-at l = length l.blocks - l.at
+abbrev pub invariant-loop-k : goal.invariant-loop-k
+invariant-loop-k l = Coding l.rate l.blocks l.initial.output l.output l.coder (204 * l.k) l.count

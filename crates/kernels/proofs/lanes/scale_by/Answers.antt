@@ -3,12 +3,12 @@
 use Rattle.kernels.proofs.Factors.{scaling_none, scaling_more, scaling_all}
 use Rattle.kernels.proofs.lanes.scale_by.Goals as goal
 
-pub loop-i-init : goal.loop-i-init
-loop-i-init c = scaling_none _ _
+pub loop-factor-init : goal.loop-factor-init
+loop-factor-init c = scaling_none _ _
 
-pub loop-i-preserved : goal.loop-i-preserved
-loop-i-preserved c =
-    scaling_more c.loop-i.invariant c.loop-i-test.true c.scale-next.ensures
+pub loop-factor-preserved : goal.loop-factor-preserved
+loop-factor-preserved c =
+    scaling_more c.loop-factor.invariant c.loop-factor-test.true c.scale-next.ensures
 
 pub returns : goal.returns
-returns c = scaling_all c.loop-i.invariant c.loop-i-test.false
+returns c = scaling_all c.loop-factor.invariant c.loop-factor-test.false

@@ -10,7 +10,7 @@ use Rattle.lock_receiver.proofs.LockReceiver.new.Goals as goal
 
 pub returns : goal.returns
 unfolding fresh_lock
-returns c = ap from c.new-receiver.ensures
+returns c = ap from c.new.ensures
   where
     from : Receiver → LockReceiver
     from s = record { receiver = s; certainty = Unsure 0; packets = replicate 1316 0 }

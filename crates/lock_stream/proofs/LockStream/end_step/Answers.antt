@@ -16,7 +16,7 @@ returns c =
     let t = c.end_step-step in
     let w = c.tell-told in
     record {
-      ends = record { end = t.result; source_ends = t.ensures; over_is = refl; left_is = refl; source_is = refl; tells = w.ensures.tells };
+      ends = record { end = t.result; source_ends = t.ensures; over_is = refl; source_is = refl; tells = w.ensures.tells };
       packets_fit = w.ensures.packets_fit;
       text_fits = w.ensures.text_fits;
       ready = record { source = t.ensures.ready; receiver = w.ensures.ready };

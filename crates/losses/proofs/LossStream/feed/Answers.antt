@@ -54,8 +54,8 @@ returns-then-capacity-piece c =
     let t : capacity_of a.self < length a.piece.now = omega (arith, c.if-capacity-piece.true, capacity) in
     refused (simp (good, fit, le-ltb _ _ (enough), lt-ltb _ _ t)) (omega arith) refl refl refl
 
-pub take_piece-taken-requires : goal.take_piece-taken-requires
-take_piece-taken-requires c =
+pub take_piece-requires : goal.take_piece-requires
+take_piece-requires c =
     let good : loss_stream_in_range c.args.self ≡ true = sym c.in_range.ensures ∙ c.if-not-in_range.false in
     let ranges : StreamRange c.args.self = stream_range c.args.self (good) in
     let fit : marks_fit c.args.piece.now c.args.marks.now ≡ true = sym c.marks_fit.ensures ∙ c.if-not-marks_fit.false in
@@ -74,6 +74,6 @@ returns c =
     let capacity : c.capacity.result ≡ capacity_of c.args.self = let i = c.args.self in
     c.capacity.ensures ∙ ap (λ (t : Bool). pick t (capacity_of i) 0) (good) in
     let a = c.args in
-    let t = c.take_piece-taken.ensures in
+    let t = c.take_piece.ensures in
     let n : length a.piece.now ≤ capacity_of a.self = omega (arith, c.if-capacity-piece.false, capacity) in
     fed (simp (good, fit, le-ltb _ _ (enough), le-ltb _ _ n)) refl t.lines t.takes t.writes

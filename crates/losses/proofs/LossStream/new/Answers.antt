@@ -10,7 +10,7 @@ use Rattle.losses.proofs.LossStream.new.Goals as goal
 
 pub returns : goal.returns
 unfolding fresh_loss_stream
-returns c = ap from c.new-receiver.ensures
+returns c = ap from c.new.ensures
   where
     from : Receiver → LossStream
     from s = record { receiver = s; certainty = Unsure 0; pending = replicate 204 0; marks = replicate 204 0; held = 0 }

@@ -7,27 +7,27 @@ use Rattle.program_io.proofs.words.parse_number.Goals as goal
 pub returns-then-word-eq0 : goal.returns-then-word-eq0
 returns-then-word-eq0 c = parsed_none c.args.word.now c.args.most c.if-word-eq0.true
 
-pub loop-i-init : goal.loop-i-init
-loop-i-init c = (reading_start _ _, let h = c.if-word-eq0.false in omega (arith, h))
+pub loop-character-init : goal.loop-character-init
+loop-character-init c = (reading_start _ _, let h = c.if-word-eq0.false in omega (arith, h))
 
 pub returns-then-character-lt48 : goal.returns-then-character-lt48
-returns-then-character-lt48 c = let t = c.loop-i-test in sym (below c.loop-i.invariant.0 (omega (arith, t)) c.if-character-lt48.true)
+returns-then-character-lt48 c = let t = c.loop-character-test in sym (below c.loop-character.invariant.0 (omega (arith, t)) c.if-character-lt48.true)
 
 pub returns-then-character-gt57 : goal.returns-then-character-gt57
-returns-then-character-gt57 c = let t = c.loop-i-test in sym (above c.loop-i.invariant.0 (omega (arith, t)) c.if-character-lt48.false c.if-character-gt57.true)
+returns-then-character-gt57 c = let t = c.loop-character-test in sym (above c.loop-character.invariant.0 (omega (arith, t)) c.if-character-lt48.false c.if-character-gt57.true)
 
 pub appended-value-requires : goal.appended-value-requires
-appended-value-requires c = let h = c.if-character-gt57.false in (c.loop-i.invariant.0.bound, omega (arith, h), c.requires)
+appended-value-requires c = let h = c.if-character-gt57.false in (c.loop-character.invariant.0.bound, omega (arith, h), c.requires)
 
-pub loop-i-preserved : goal.loop-i-preserved
-loop-i-preserved c =
-    let l = c.loop-i in
-    let t = c.loop-i-test in
+pub loop-character-preserved : goal.loop-character-preserved
+loop-character-preserved c =
+    let l = c.loop-character in
+    let t = c.loop-character-test in
     let a = c.appended-value.ensures in
     (reading_more l.invariant.0 (omega (arith, t)) c.if-character-lt48.false c.if-character-gt57.false c.appended-value.result a.0 a.1.0 a.1.1, l.invariant.1)
 
 pub returns-then-most-value : goal.returns-then-most-value
-returns-then-most-value c = let t = c.loop-i-test in let l = c.loop-i in reading_large l.invariant.0 (omega (arith, t)) l.invariant.1 c.if-most-value.true
+returns-then-most-value c = let t = c.loop-character-test in let l = c.loop-character in reading_large l.invariant.0 (omega (arith, t)) l.invariant.1 c.if-most-value.true
 
 pub returns : goal.returns
-returns c = let t = c.loop-i-test in let l = c.loop-i in reading_number l.invariant.0 (omega (arith, t)) l.invariant.1 c.if-most-value.false
+returns c = let t = c.loop-character-test in let l = c.loop-character in reading_number l.invariant.0 (omega (arith, t)) l.invariant.1 c.if-most-value.false

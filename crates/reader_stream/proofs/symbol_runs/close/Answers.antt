@@ -18,4 +18,4 @@ pub read_pairs-read-requires : goal.read_pairs-read-requires
 read_pairs-read-requires c = end_readable c.args.runs c.requires.0 _ c.symbol_count.ensures c.args.output.now c.requires.1
 
 pub returns : goal.returns
-returns c = closes c.args.runs c.requires.0 _ c.symbol_count.ensures c.args.output.now c.read_pairs-read.ensures.1
+returns c = closes c.args.runs c.requires.0 _ c.symbol_count.ensures c.args.output.now c.read_pairs-read.ensures

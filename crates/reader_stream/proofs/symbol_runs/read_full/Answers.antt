@@ -9,10 +9,10 @@ pub read_pairs-requires : goal.read_pairs-requires
 read_pairs-requires c = full_readable c.args.rate c.args.memory c.requires.0 c.requires.1 c.args.pairs.now c.args.output.now c.requires.2 c.requires.3 c.requires.4
 
 pub slice_bounds-memory_after-end : goal.slice_bounds-memory_after-end
-slice_bounds-memory_after-end c = (front c.args.rate c.args.memory c.requires.0 c.requires.1 c.args.pairs.now c.args.output.now c.requires.2 c.read_pairs.ensures.1 _ c.kept_bits-kept.ensures).2
+slice_bounds-memory_after-end c = (front c.args.rate c.args.memory c.requires.0 c.requires.1 c.args.pairs.now c.args.output.now c.requires.2 c.read_pairs.ensures _ c.kept_bits-kept.ensures).2
 
 pub memory_after-requires : goal.memory_after-requires
-memory_after-requires c = (c.requires.1, (front c.args.rate c.args.memory c.requires.0 c.requires.1 c.args.pairs.now c.args.output.now c.requires.2 c.read_pairs.ensures.1 _ c.kept_bits-kept.ensures).1)
+memory_after-requires c = (c.requires.1, (front c.args.rate c.args.memory c.requires.0 c.requires.1 c.args.pairs.now c.args.output.now c.requires.2 c.read_pairs.ensures _ c.kept_bits-kept.ensures).1)
 
 pub returns : goal.returns
 returns c =
@@ -21,6 +21,6 @@ returns c =
       total = r.result.cost;
       last = r.result.memory;
       count = r.result.count;
-      out = r.ensures.1;
-      leaves = c.memory_after.ensures ∙ ap (memory_after c.args.memory) (front c.args.rate c.args.memory c.requires.0 c.requires.1 c.args.pairs.now c.args.output.now c.requires.2 c.read_pairs.ensures.1 _ c.kept_bits-kept.ensures).0;
+      out = r.ensures;
+      leaves = c.memory_after.ensures ∙ ap (memory_after c.args.memory) (front c.args.rate c.args.memory c.requires.0 c.requires.1 c.args.pairs.now c.args.output.now c.requires.2 c.read_pairs.ensures _ c.kept_bits-kept.ensures).0;
     }

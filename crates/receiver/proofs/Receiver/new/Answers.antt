@@ -13,8 +13,8 @@ use Rattle.receiver.proofs.Receiver.new.Goals as goal
 pub returns : goal.returns
 unfolding fresh_receiver
 returns c =
-    ap (λ (d : Branches). record { deinterleaver = record { branches = d }; marks = replicate 1122 0; sync = c.new-sync.result; counts = c.new-counts.result })
-    c.new-deinterleaver.ensures
-    ∙ ap (λ (s : GroupSync). record { deinterleaver = record { branches = fresh }; marks = replicate 1122 0; sync = s; counts = c.new-counts.result })
-    c.new-sync.ensures
-    ∙ ap (λ (n : Counts). record { deinterleaver = record { branches = fresh }; marks = replicate 1122 0; sync = fresh_sync; counts = n }) c.new-counts.ensures
+    ap (λ (d : Branches). record { deinterleaver = record { branches = d }; marks = replicate 1122 0; sync = c.new-2.result; counts = c.new-3.result })
+    c.new.ensures
+    ∙ ap (λ (s : GroupSync). record { deinterleaver = record { branches = fresh }; marks = replicate 1122 0; sync = s; counts = c.new-3.result })
+    c.new-2.ensures
+    ∙ ap (λ (n : Counts). record { deinterleaver = record { branches = fresh }; marks = replicate 1122 0; sync = fresh_sync; counts = n }) c.new-3.ensures

@@ -54,8 +54,8 @@ returns-then-capacity-piece c =
     let t : capacity_of a.self < length a.piece.now = omega (arith, c.if-capacity-piece.true, capacity) in
     refused (simp (good, marked, le-ltb _ _ (enough), lt-ltb _ _ t)) (omega arith) refl refl refl
 
-pub take_piece-taken-requires : goal.take_piece-taken-requires
-take_piece-taken-requires c =
+pub take_piece-requires : goal.take_piece-requires
+take_piece-requires c =
     let good : receiver_stream_in_range c.args.self ≡ true = sym c.in_range.ensures ∙ c.if-not-in_range.false in
     let few : c.args.self.held < 204 = (stream_range c.args.self (good)).1 in
     let marked : let a = c.args in marks_for a.piece.now a.marks.now ≡ true = sym c.are_marks_for.ensures ∙ c.if-not-are_marks_for.false in
@@ -75,4 +75,4 @@ returns c =
     c.capacity.ensures ∙ ap (λ (t : Bool). pick t (capacity_of i) 0) (good) in
     let a = c.args in
     let t : length a.piece.now ≤ capacity_of a.self = omega (arith, c.if-capacity-piece.false, capacity) in
-    fed (simp (good, marked, le-ltb _ _ (enough), le-ltb _ _ t)) refl c.take_piece-taken.ensures
+    fed (simp (good, marked, le-ltb _ _ (enough), le-ltb _ _ t)) refl c.take_piece.ensures

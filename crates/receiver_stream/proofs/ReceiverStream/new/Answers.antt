@@ -9,7 +9,7 @@ use Rattle.receiver_stream.proofs.ReceiverStream.new.Goals as goal
 
 pub returns : goal.returns
 unfolding fresh_receiver_stream
-returns c = ap from c.new-receiver.ensures
+returns c = ap from c.new.ensures
   where
     from : Receiver → ReceiverStream
     from s = record { receiver = s; pending = replicate 204 0; marks = replicate 204 0; held = 0 }

@@ -33,18 +33,18 @@ returns-then-outofstep-taken c = sum_fails _ (λ e. omega arith) (omega arith)
 pub returns-then-filling-delivered : goal.returns-then-filling-delivered
 returns-then-filling-delivered c = sum_fails _ (λ e. c.if-filling-delivered.true (e)) (omega arith)
 
-pub returns-then-filling-least : goal.returns-then-filling-least
+pub returns-then-filling-min : goal.returns-then-filling-min
 unfolding counts_in_range
-returns-then-filling-least c =
+returns-then-filling-min c =
     let h : c.args.self.taken ≤ 4294967295 = omega arith in
-    simp (le-leb _ _ h, eq-eqb _ _ c.if-filling-delivered.false, ne_eqb _ _ (λ e. c.if-filling-least.true (e ∙ sym c.least.ensures)))
+    simp (le-leb _ _ h, eq-eqb _ _ c.if-filling-delivered.false, ne_eqb _ _ (λ e. c.if-filling-min.true (e ∙ sym c.min.ensures)))
 
 pub returns-then-changed-delivered : goal.returns-then-changed-delivered
 unfolding counts_in_range
 returns-then-changed-delivered c =
     let changes_left : let n = c.args.self in
     counts_in_range n ≡ pick (leb n.changed (16 * accepted_blocks n)) (pick (leb n.changed n.bits) (leb n.bits (8 * n.changed)) false) false = let h : c.args.self.taken ≤ 4294967295 = omega arith in
-    simp (le-leb _ _ h, eq-eqb _ _ c.if-filling-delivered.false, eq-eqb _ _ (c.if-filling-least.false ∙ c.least.ensures)) in
+    simp (le-leb _ _ h, eq-eqb _ _ c.if-filling-delivered.false, eq-eqb _ _ (c.if-filling-min.false ∙ c.min.ensures)) in
     sym (changes_left ∙ simp (lt-leb _ _ c.if-changed-delivered.true))
 
 pub returns-then-changed-bits : goal.returns-then-changed-bits
@@ -52,7 +52,7 @@ unfolding counts_in_range
 returns-then-changed-bits c =
     let changes_left : let n = c.args.self in
     counts_in_range n ≡ pick (leb n.changed (16 * accepted_blocks n)) (pick (leb n.changed n.bits) (leb n.bits (8 * n.changed)) false) false = let h : c.args.self.taken ≤ 4294967295 = omega arith in
-    simp (le-leb _ _ h, eq-eqb _ _ c.if-filling-delivered.false, eq-eqb _ _ (c.if-filling-least.false ∙ c.least.ensures)) in
+    simp (le-leb _ _ h, eq-eqb _ _ c.if-filling-delivered.false, eq-eqb _ _ (c.if-filling-min.false ∙ c.min.ensures)) in
     sym (changes_left ∙ simp (le-leb _ _ c.if-changed-delivered.false, lt-leb _ _ c.if-changed-bits.true))
 
 last-test : {a b t : Bool} → a ≡ true → b ≡ true → pick a (pick b t false) false ≡ t
@@ -63,5 +63,5 @@ unfolding counts_in_range
 returns c =
     let changes_left : let n = c.args.self in
     counts_in_range n ≡ pick (leb n.changed (16 * accepted_blocks n)) (pick (leb n.changed n.bits) (leb n.bits (8 * n.changed)) false) false = let h : c.args.self.taken ≤ 4294967295 = omega arith in
-    simp (le-leb _ _ h, eq-eqb _ _ c.if-filling-delivered.false, eq-eqb _ _ (c.if-filling-least.false ∙ c.least.ensures)) in
+    simp (le-leb _ _ h, eq-eqb _ _ c.if-filling-delivered.false, eq-eqb _ _ (c.if-filling-min.false ∙ c.min.ensures)) in
     sym (changes_left ∙ last-test (le-leb _ _ c.if-changed-delivered.false) (le-leb _ _ c.if-changed-bits.false))

@@ -65,13 +65,8 @@ loop-i-preserved c =
     put-more a.output.now (numbers_of a.counts) c.requires refl c.loop-i.output c.put_number.new.output c.loop-i.i c.loop-i.invariant
     c.loop-i-test.true c.put_number.ensures
 
-pub shape_of-output : goal.shape_of-output
-shape_of-output c =
-    let a = c.args in
-    put-length a.output.now (numbers_of a.counts) c.requires refl c.loop-i.output c.loop-i.i c.loop-i.invariant
-
 pub returns : goal.returns
 unfolding count_bytes
 returns c =
     let a = c.args in
-    put-end a.output.now (numbers_of a.counts) c.requires refl c.loop-i.output c.loop-i.i c.loop-i.invariant c.loop-i-test.false
+    put-end a.output.now (numbers_of a.counts) c.requires refl c.loop-i.output c.loop-i.i c.loop-i.invariant (omega arith)

@@ -6,7 +6,7 @@ use Prim.Native.Nat.{ℕ, ◌+◌, ◌≤◌, ◌<◌}
 use native.Mathlib.Omega.{arith}
 use lib.ListN.{length, set}
 use Rattle.common.specs.Lists.{placed}
-use Rattle.common.proofs.Written.{Written, written_none, written_more, written_length}
+use Rattle.common.proofs.Written.{Written, written_none, written_more}
 use Rattle.common.proofs.Outputs.{placed_all}
 use Rattle.common.specs.Bytes.{byte_at}
 use Rattle.reception_counts.specs.Bytes.{to_bytes}
@@ -25,15 +25,8 @@ finish number at output₀ output k w h =
 pub loop-k-init : goal.loop-k-init
 loop-k-init c = let a = c.args in written_none (omega (arith, length_to 8 a.number, c.requires))
 
-pub bounds-output-at : goal.bounds-output-at
-bounds-output-at c =
-    omega (arith, c.loop-k-test.true, written_length c.loop-k.invariant, c.requires)
-
 pub loop-k-preserved : goal.loop-k-preserved
 loop-k-preserved c = more _ _ _ _ _ _ c.loop-k.invariant c.loop-k-test.true c.byte_at.ensures
 
-pub shape_of-output : goal.shape_of-output
-shape_of-output c = written_length c.loop-k.invariant
-
 pub returns : goal.returns
-returns c = finish _ _ _ _ _ c.loop-k.invariant c.loop-k-test.false
+returns c = finish _ _ _ _ _ c.loop-k.invariant (omega arith)

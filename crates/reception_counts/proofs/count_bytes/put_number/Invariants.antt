@@ -1,12 +1,8 @@
 -- `reception_counts::count_bytes::put_number` meets its contract.
 -- Assumes nothing.
-use Prim.Native.Nat.{◌-◌}
 use Rattle.common.proofs.Written.{Written}
 use Rattle.reception_counts.specs.Bytes.{to_bytes}
 use Rattle.reception_counts.proofs.count_bytes.put_number.Given as goal
 
 abbrev pub invariant-loop-k : goal.invariant-loop-k
 invariant-loop-k l = Written l.at l.initial.output (to_bytes 8 l.number) l.output l.k
-
-abbrev pub decreases-loop-k : goal.decreases-loop-k
-decreases-loop-k l = 8 - l.k

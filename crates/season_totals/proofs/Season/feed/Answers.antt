@@ -9,14 +9,14 @@ use Rattle.season_totals.proofs.Season.feed.Goals as goal
 pub loop-at-init : goal.loop-at-init
 loop-at-init c = fed_none _ _
 
-pub overflow_sub-held : goal.overflow_sub-held
-overflow_sub-held c =
+pub overflow_sub-season : goal.overflow_sub-season
+overflow_sub-season c =
     let small : c.loop-at.season.held < 320 = let b = c.requires in came_small (c.loop-at.invariant.is b.bytes b.is) in
     let s = small in
     omega arith
 
-pub take_part-next-requires : goal.take_part-next-requires
-take_part-next-requires c =
+pub take_part-season-requires : goal.take_part-season-requires
+take_part-season-requires c =
     let small : c.loop-at.season.held < 320 = let b = c.requires in came_small (c.loop-at.invariant.is b.bytes b.is) in
     let l = c.loop-at in
     let b = c.requires in
@@ -28,12 +28,12 @@ loop-at-smaller c =
     let small : c.loop-at.season.held < 320 = let b = c.requires in came_small (c.loop-at.invariant.is b.bytes b.is) in
     let s = small in
     let h = c.loop-at-test.true in
-    omega (arith, c.smaller.ensures)
+    omega (arith, c.min.ensures)
 
 pub loop-at-preserved : goal.loop-at-preserved
 loop-at-preserved c =
     let l = c.loop-at in
-    fed_more c.smaller.result l.invariant (search rules) c.take_part-next.ensures
+    fed_more c.min.result l.invariant (search rules) c.take_part-season.ensures
 
 pub returns : goal.returns
 returns c = fed_all c.loop-at.invariant c.loop-at-test.false

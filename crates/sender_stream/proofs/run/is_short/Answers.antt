@@ -15,33 +15,33 @@ use Rattle.sender_stream.proofs.run.is_short.Goals as goal
 pub overflow_cast-length-2 : goal.overflow_cast-length-2
 overflow_cast-length-2 c = let h = c.requires.0 in omega (arith, length_is c.args.rate h, length_le c.args.rate h)
 
-pub loop-k-init : goal.loop-k-init
-loop-k-init c = counting_start _ _ _ _ c.requires.0 c.requires.1
+pub loop-init : goal.loop-init
+loop-init c = counting_start _ _ _ _ c.requires.0 c.requires.1
 
 pub returns-then-left-needed : goal.returns-then-left-needed
 returns-then-left-needed c =
-    let needed : c.symbol_count-needed.result ≡ symbols_in c.args.rate c.loop-k.place (block_bits c.args.rate) = c.symbol_count-needed.ensures ∙ needed_is _ _ c.requires.0 c.loop-k.invariant.in_pattern in
-    sym (lt-ltb _ _ (counting_short c.loop-k.invariant c.loop-k-test.true (rw (needed) at c.if-left-needed.true)))
+    let needed : c.symbol_count-needed.result ≡ symbols_in c.args.rate c.loop.place (block_bits c.args.rate) = c.symbol_count-needed.ensures ∙ needed_is _ _ c.requires.0 c.loop.invariant.in_pattern in
+    sym (lt-ltb _ _ (counting_short c.loop.invariant c.loop-test.true (rw (needed) at c.if-left-needed.true)))
 
 pub overflow_cast-place : goal.overflow_cast-place
-overflow_cast-place c = omega (arith, c.loop-k.invariant.in_pattern, length_le c.args.rate c.requires.0)
+overflow_cast-place c = omega (arith, c.loop.invariant.in_pattern, length_le c.args.rate c.requires.0)
 
 pub overflow_add-place : goal.overflow_add-place
-overflow_add-place c = omega (arith, c.loop-k.invariant.in_pattern, length_le c.args.rate c.requires.0)
+overflow_add-place c = omega (arith, c.loop.invariant.in_pattern, length_le c.args.rate c.requires.0)
 
 pub nonzero_rem-place : goal.nonzero_rem-place
-nonzero_rem-place c = omega (arith, c.loop-k.invariant.in_pattern, length_is c.args.rate c.requires.0)
+nonzero_rem-place c = omega (arith, c.loop.invariant.in_pattern, length_is c.args.rate c.requires.0)
 
-pub overflow_cast-place-in-loop-k : goal.overflow_cast-place-in-loop-k
-overflow_cast-place-in-loop-k c =
+pub overflow_cast-place-in-loop : goal.overflow_cast-place-in-loop
+overflow_cast-place-in-loop c =
     let p = length_is c.args.rate c.requires.0 in
-    let r : (c.loop-k.place + 1632) % get_or lengths c.args.rate 0 < get_or lengths c.args.rate 0 = mod-lt (c.loop-k.place + 1632) (omega (arith, c.loop-k.invariant.in_pattern, p)) in
+    let r : (c.loop.place + 1632) % get_or lengths c.args.rate 0 < get_or lengths c.args.rate 0 = mod-lt (c.loop.place + 1632) (omega (arith, c.loop.invariant.in_pattern, p)) in
     omega (arith, r, length_le c.args.rate c.requires.0, p)
 
-pub loop-k-preserved : goal.loop-k-preserved
-loop-k-preserved c =
-    let needed : c.symbol_count-needed.result ≡ symbols_in c.args.rate c.loop-k.place (block_bits c.args.rate) = c.symbol_count-needed.ensures ∙ needed_is _ _ c.requires.0 c.loop-k.invariant.in_pattern in
-    counting_more c.loop-k.invariant c.loop-k-test.true (length_is c.args.rate c.requires.0) (needed) c.if-left-needed.false
+pub loop-preserved : goal.loop-preserved
+loop-preserved c =
+    let needed : c.symbol_count-needed.result ≡ symbols_in c.args.rate c.loop.place (block_bits c.args.rate) = c.symbol_count-needed.ensures ∙ needed_is _ _ c.requires.0 c.loop.invariant.in_pattern in
+    counting_more c.loop.invariant c.loop-test.true (length_is c.args.rate c.requires.0) (needed) c.if-left-needed.false
 
 pub returns : goal.returns
-returns c = sym (le-ltb _ _ (counting_end c.loop-k.invariant c.loop-k-test.false))
+returns c = sym (le-ltb _ _ (counting_end c.loop.invariant c.loop-test.false))

@@ -1,7 +1,9 @@
 -- `sender_stream::run::send_run` meets its contract.
 -- Assumes nothing.
 use mathlib.Core.Path.{◌≡◌, refl, sym, ap, ◌∙◌}
-use mathlib.Core.Bool.{true}
+use mathlib.Core.Bool.{Bool, true, false, not}
+use Rattle.common.specs.Choice.{pick}
+use Prim.Native.Nat.{ℕ}
 use borrow.Author.Tests.{eq-eqb, ne_eqb, ltb-false}
 use lib.Dec.{ltb}
 use lib.ListN.{length}
@@ -12,6 +14,14 @@ use Rattle.sender_stream.specs.Run.{run_symbols, run_refusal}
 use Rattle.sender_stream.proofs.Counting.{length_run}
 use Rattle.sender_stream.proofs.Outcome.{run_refused, run_answered}
 use Rattle.sender_stream.proofs.run.send_run.Goals as goal
+
+-- 15 where not every packet is one
+told : (s t : Bool) → s ≡ t → ◌≡◌ {A = ℕ} (pick (not s) 15 0) (pick t 0 15)
+told s t e = rw e (by t)
+  where
+    by : (b : Bool) → ◌≡◌ {A = ℕ} (pick (not b) 15 0) (pick b 0 15)
+    by true = refl
+    by false = refl
 
 pub returns-then-not-is_sent : goal.returns-then-not-is_sent
 returns-then-not-is_sent c =
@@ -36,25 +46,13 @@ returns-then-is_short c =
     run_refused c.args.rate c.args.packets.now c.args.output.now 4
     (simp (sent, eq-eqb _ _ c.if-packets-ne0.false, short ∙ c.if-is_short.true)) refl
 
-pub send_packets-count-requires : goal.send_packets-count-requires
-send_packets-count-requires c =
+pub send_packets-requires : goal.send_packets-requires
+send_packets-requires c =
     let sent : (mode_of c.args.rate).sent ≡ true = sym c.is_sent.ensures ∙ c.if-not-is_sent.false in
     let short : let a = c.args in
     ltb (length a.output.now) (length (run_symbols a.rate a.packets.now)) ≡ c.is_short.result = let a = c.args in
     ap (ltb (length a.output.now)) (length_run a.rate (sent_known a.rate (sent)) a.packets.now) ∙ sym c.is_short.ensures in
     record { sent = sent; whole = c.if-packets-ne0.false; fits = ltb-false _ _ (short ∙ c.if-is_short.false) }
-
-pub returns-then-not-is_synced : goal.returns-then-not-is_synced
-returns-then-not-is_synced c =
-    let sent : (mode_of c.args.rate).sent ≡ true = sym c.is_sent.ensures ∙ c.if-not-is_sent.false in
-    let short : let a = c.args in
-    ltb (length a.output.now) (length (run_symbols a.rate a.packets.now)) ≡ c.is_short.result = let a = c.args in
-    ap (ltb (length a.output.now)) (length_run a.rate (sent_known a.rate (sent)) a.packets.now) ∙ sym c.is_short.ensures in
-    let taken : let a = c.args in
-    run_refusal a.rate a.packets.now a.output.now ≡ 0 = simp (sent, eq-eqb _ _ c.if-packets-ne0.false, short ∙ c.if-is_short.false) in
-    let r = c.send_packets-count.ensures in
-    run_answered c.args.rate c.args.packets.now c.args.output.now (taken)
-    (sym (simp (sym c.is_synced.ensures ∙ c.if-not-is_synced.true))) r.0 r.1
 
 pub returns : goal.returns
 returns c =
@@ -64,6 +62,5 @@ returns c =
     ap (ltb (length a.output.now)) (length_run a.rate (sent_known a.rate (sent)) a.packets.now) ∙ sym c.is_short.ensures in
     let taken : let a = c.args in
     run_refusal a.rate a.packets.now a.output.now ≡ 0 = simp (sent, eq-eqb _ _ c.if-packets-ne0.false, short ∙ c.if-is_short.false) in
-    let r = c.send_packets-count.ensures in
-    run_answered c.args.rate c.args.packets.now c.args.output.now (taken)
-    (sym (simp (sym c.is_synced.ensures ∙ c.if-not-is_synced.false))) r.0 r.1
+    let r = c.in_ok-count.ensures in
+    run_answered c.args.rate c.args.packets.now c.args.output.now (taken) (told _ _ c.is_synced-replaced.ensures) r.1 r.2
