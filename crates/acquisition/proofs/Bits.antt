@@ -1,6 +1,6 @@
 -- What a call of the aligner counts, and two calls that take all bits of a run.
 -- Assumes nothing.
-use Rattle.std.specs.Prelude.{None, Ok, Err, is_some}
+use Rattle.std.specs.Prelude.{None, Ok, is_some}
 use mathlib.Core.Path.{◌≡◌, refl, sym, ap, subst}
 use mathlib.Core.Bool.{Bool, true, false}
 use mathlib.Core.List.{List, ◌++◌}
@@ -10,8 +10,7 @@ use lib.ListN.{length, take, drop, replicate, length-append, length-drop, length
 use Rattle.common.specs.Choice.{pick}
 use Rattle.common.specs.Lists.{padded}
 use Rattle.block_sync.specs.Decision.{Decides, used_bits, block_given, follows, begins, searches}
-use Rattle.block_sync.specs.Feed.{held_bits, TurnsBuffer, FeedsSync, refused, gathered, turned}
-use Rattle.answer.specs.declared.Refusal.{Refusal}
+use Rattle.block_sync.specs.Feed.{held_bits, TurnsBuffer, FeedsSync, gathered, turned}
 use Rattle.block_sync.specs.declared.Lock.{Lock}
 use Rattle.block_sync.specs.declared.Decision.{Decision}
 use Rattle.block_sync.specs.declared.BlockSync.{BlockSync}
@@ -77,10 +76,6 @@ feed_counts s piece r e h (gathered g x) =
       rest_few = λ l. omega (arith, n, m, g);
     })
 feed_counts s piece r e h (turned g f t) = turn_counts s piece (held_bits s ++ take (8168 - s.held) piece) r h f (full_length s piece e h (omega (arith, f))) t
-
--- refused where more bits are held than the buffer has room for
-pub refused_full : {s : BlockSync} {piece : List ℕ} {a : Refusal} → FeedsSync s piece (Err a) → 8168 ≤ s.held
-refused_full (refused h) = h
 
 -- two calls take all bits of a run, and the second decides nothing
 pub takes_bits : (s : BlockSync) (bits : List ℕ) (f g : SyncStep) → length s.bits ≡ 8168 → s.held < 8168 → length bits ≤ 1632

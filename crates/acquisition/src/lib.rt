@@ -178,13 +178,8 @@ fn take_bits(sync: BlockSync, bits: &[u8]) -> SyncStep
     requires { (sync.held < 8168) × (length bits.now ≤ 1632) }
     ensures { TakesBits sync bits.now result }
 {
-    let Ok(first) = sync.feed(bits) else {
-        unreachable!()
-    };
-    let taken = first.taken;
-    let Ok(second) = first.sync.feed(&bits[taken..]) else {
-        unreachable!()
-    };
+    let first = sync.take(bits);
+    let second = first.sync.take(&bits[first.taken..]);
     SyncStep {
         taken: bits.len(),
         skipped: first.skipped,

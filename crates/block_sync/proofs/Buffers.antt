@@ -6,7 +6,7 @@ use mathlib.Core.Bool.{Bool}
 use mathlib.Core.List.{List, [], ◌++◌, append-nil}
 use Prim.Native.Nat.{ℕ, ◌+◌, ◌-◌, ◌≤◌, ◌<◌}
 use native.Mathlib.Omega.{arith}
-use lib.ListN.{length, take, drop, length-append, length-drop}
+use lib.ListN.{length, take, drop, length-append, length-drop, drop_of_length-le}
 use lib.Seq.{length-take-le, take_all}
 use Rattle.common.specs.Lists.{padded}
 use Rattle.block_sync.specs.Decision.{block_of, used_bits, block_given}
@@ -15,7 +15,6 @@ use Rattle.block_sync.specs.declared.Decision.{Decision}
 use Rattle.block_sync.specs.declared.BlockSync.{BlockSync}
 use Rattle.block_sync.specs.declared.SyncStep.{SyncStep}
 use Rattle.block_sync.specs.declared.GivenBlock.{GivenBlock}
-use Rattle.common.proofs.Padded.{padded_full}
 
 -- a block is given where one is decided
 pub given_same : {A B : Type 0} (g : Option A) (f : A → B) → is_some (option_map f g) ≡ is_some g
@@ -60,6 +59,7 @@ pub full_length : (s : BlockSync) (piece : List ℕ) → length s.bits ≡ 8168 
 full_length s piece e h k = omega (arith, length-append (held_bits s) (take (8168 - s.held) piece), held_length s e (omega arith), part_length s piece k)
 
 -- the buffer, filled
-pub filled_is : (s : BlockSync) (piece buffer : List ℕ) → length s.bits ≡ 8168 → s.held < 8168 → 8168 - s.held ≤ length piece
-    → buffer ≡ padded 8168 (held_bits s ++ take (8168 - s.held) piece) → buffer ≡ held_bits s ++ take (8168 - s.held) piece
-filled_is s piece buffer e h k b = b ∙ padded_full 8168 (held_bits s ++ take (8168 - s.held) piece) (full_length s piece e h k)
+pub filled_is : (s : BlockSync) (piece exit : List ℕ) → length s.bits ≡ 8168 → s.held + length piece ≡ 8168 → exit ≡ take s.held s.bits ++ piece ++ drop (s.held + length piece) s.bits
+    → exit ≡ held_bits s ++ piece
+filled_is s piece exit e h w =
+    w ∙ ap (λ (l : List ℕ). held_bits s ++ piece ++ l) (drop_of_length-le s.bits {i = s.held + length piece} (omega arith)) ∙ append-nil (held_bits s ++ piece)

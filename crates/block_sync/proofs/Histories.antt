@@ -1,7 +1,7 @@
 -- Piece after piece: what comes out follows from all the bits that came.
 -- Assumes nothing.
 use Rattle.answer.specs.declared.Refusal.{Refusal}
-use Rattle.std.specs.Prelude.{Result, Ok}
+use Rattle.std.specs.Prelude.{Result, Ok, IsOkAnd}
 use mathlib.Core.Path.{◌≡◌, refl, sym, ◌∙◌, ap, ap₂, subst}
 use mathlib.Core.List.{List, [], ◌∷◌, ◌++◌, map, flatten, append-nil, append_assoc}
 use Prim.Native.Nat.{ℕ, ◌+◌, ◌-◌, ◌<◌}
@@ -150,7 +150,8 @@ finishes_unique (feed.FinishesSync.turned h t) (feed.FinishesSync.refused h') = 
 finishes_unique (feed.FinishesSync.turned h t) (feed.FinishesSync.turned h' t') = ap (λ (r : SyncStep). Ok r) (turns_unique t t')
 
 -- a call takes at least a bit of a piece that has one, and all of it where the buffer is not filled
-pub takes_some : {s : BlockSync} {piece : List ℕ} {r : SyncStep} → FeedsSync s piece (Ok r) → s.held < 8168 → 0 < length piece → 0 < r.taken
+pub takes_some : {s : BlockSync} {piece : List ℕ} {r : Result SyncStep Refusal} → FeedsSync s piece r → s.held < 8168 → 0 < length piece → IsOkAnd r (λ d. 0 < d.taken)
+takes_some (feed.FeedsSync.refused h) k n = absurd (omega arith)
 takes_some (feed.FeedsSync.gathered h e) k n = let t = ap (λ (x : SyncStep). x.taken) e in omega arith
 takes_some (feed.FeedsSync.turned h k' t) k n = let u = ap (λ (x : SyncStep). x.taken) t.result in omega arith
 

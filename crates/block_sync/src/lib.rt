@@ -2,13 +2,13 @@
 // A decision is made only when the buffer of 8,168 bits, five blocks and a sync byte, is full, so that it does not depend on the pieces.
 #![tactic(auto)]
 
-ghost use Rattle.std.specs.Prelude.{◌≡◌, ◌+◌, ◌-◌, ◌≤◌, length};
+ghost use Rattle.std.specs.Prelude.{◌≡◌, ◌<◌, ◌+◌, ◌-◌, ◌≤◌, length};
 ghost use Rattle.block_sync.specs.Decision.{is_sync, sync_or_end, in_a_step, three_at, polarity_at, keeps, block_of, Decides, used_bits, block_given};
 ghost use Rattle.block_sync.specs.Grid.{turned_byte};
 ghost use Rattle.block_sync.specs.Feed.{fresh_block_sync, TurnsBuffer, FeedsSync, FinishesSync};
 
 use answer::Refusal;
-use common::joined;
+use common::{joined, put};
 
 // Whether blocks are being given, and whether their bits come inverted.
 #[derive(Clone, Copy)]
@@ -245,14 +245,23 @@ impl BlockSync {
     pub fn feed(self, piece: &[u8]) -> Result<SyncStep, Refusal>
         ensures { FeedsSync self piece.now result }
     {
-        let held = self.held;
-        if 8168 <= held {
+        if 8168 <= self.held {
             return Err(Refusal::StateRange);
         }
+        Ok(self.take(piece))
+    }
+
+    // The same where there is room for a bit, so that nothing is refused. A caller who knows that has each step once, and not in a Result too: it holds
+    // eight thousand bits.
+    pub fn take(self, piece: &[u8]) -> SyncStep
+        requires { self.held < 8168 }
+        ensures { FeedsSync self piece.now (Ok result) }
+    {
+        let held = self.held;
         let space = 8168 - held;
         if piece.len() < space {
             let bits = joined::<8168>(&self.bits[..held], piece);
-            return Ok(SyncStep {
+            return SyncStep {
                 taken: piece.len(),
                 skipped: 0,
                 block: None,
@@ -261,10 +270,12 @@ impl BlockSync {
                     bits,
                     held: held + piece.len(),
                 },
-            });
+            };
         }
-        let buffer = joined::<8168>(&self.bits[..held], &piece[..space]);
-        Ok(turn(space, self.lock, &buffer))
+        // A copy, and no array of zeros: all of it is filled.
+        let mut buffer = self.bits;
+        put(&piece[..space], held, &mut buffer);
+        turn(space, self.lock, &buffer)
     }
 
     // After the last piece: the next block of the bits that are held, if there is one. Called until none is given.

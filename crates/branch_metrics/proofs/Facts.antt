@@ -19,7 +19,7 @@ use Rattle.common.specs.Choice.{pick}
 use Rattle.convolutional_code.specs.Code.{taps_x, taps_y, coded, next_memory}
 use Rattle.convolutional_code.specs.Costs.{Costs, cost_from, decision_cost, pair_cost, step_costs, Pairs}
 use Rattle.branch_metrics.specs.declared.depuncturing.Sent.{Sent}
-use Rattle.branch_metrics.specs.declared.depuncturing.Sent.TheVariants.{Neither, OnlyY, OnlyX, Both}
+use Rattle.branch_metrics.specs.declared.depuncturing.Sent.TheVariants.{OnlyY, OnlyX, Both}
 use Rattle.branch_metrics.specs.Steps.{kind_of, kind, width, kind_cost, kind_at, first, punctured_costs, decision_at, coded_cost, step_pair, run_step}
 
 -- ---- decisions
@@ -95,11 +95,17 @@ cost_same F G k m (b ∷ bs) h =
 -- ---- the places of a run
 
 abbrev pub sent_table : List Sent
-sent_table = Both ∷ Neither ∷ Neither ∷ Neither ∷ Neither ∷ Neither ∷ Neither ∷ Both ∷ OnlyY ∷ Both ∷ OnlyY ∷ Neither ∷ Neither ∷ Neither ∷ Both ∷ OnlyY ∷ OnlyX ∷ Neither ∷ Neither ∷ Neither ∷ Neither ∷ Both ∷ OnlyY ∷ OnlyX ∷ OnlyY ∷ OnlyX ∷ Neither ∷ Neither ∷ Both ∷ OnlyY ∷ OnlyY ∷ OnlyY ∷ OnlyX ∷ OnlyY ∷ OnlyX ∷ []
+sent_table = Both ∷ Both ∷ Both ∷ Both ∷ Both ∷ Both ∷ Both ∷ Both ∷ OnlyY ∷ Both ∷ OnlyY ∷ Both ∷ Both ∷ Both ∷ Both ∷ OnlyY ∷ OnlyX ∷ Both ∷ Both ∷ Both ∷ Both ∷ Both ∷ OnlyY ∷ OnlyX ∷ OnlyY ∷ OnlyX ∷ Both ∷ Both ∷ Both ∷ OnlyY ∷ OnlyY ∷ OnlyY ∷ OnlyX ∷ OnlyY ∷ OnlyX ∷ []
 
-pub table_is : (rate place : ℕ) → rate < qpsk_count → place < pattern_length rate → kind_of (get_or sent_table (7 * rate + place) Neither) ≡ kind rate place
+-- a coded bit of each step is sent
+pub wide : (sent : Sent) → 0 < width (kind_of sent)
+wide OnlyY = omega arith
+wide OnlyX = omega arith
+wide Both = omega arith
+
+pub table_is : (rate place : ℕ) → rate < qpsk_count → place < pattern_length rate → kind_of (get_or sent_table (7 * rate + place) OnlyY) ≡ kind rate place
 unfolding kind mode_of flatten
-table_is rate place h l = agreed_at (λ r p. kind_of (get_or sent_table (7 * r + p) Neither)) kind tt rate place h l
+table_is rate place h l = agreed_at (λ r p. kind_of (get_or sent_table (7 * r + p) OnlyY)) kind tt rate place h l
 
 first_le_add : (rate k d : ℕ) → first rate k ≤ first rate (k + d)
 unfolding first

@@ -8,22 +8,21 @@ ghost use Rattle.branch_metrics.specs.Steps.{kind_of, width, first, decision_at,
 
 use common::put;
 
-// Which coded bits of a step are sent.
+// Which coded bits of a step are sent: at least one is.
 #[derive(Clone, Copy)]
 enum Sent {
-    Neither,
     OnlyY,
     OnlyX,
     Both,
 }
 
-use Sent::{Both, Neither, OnlyX, OnlyY};
+use Sent::{Both, OnlyX, OnlyY};
 
-// For each rate, seven to a row, and each place of its pattern.
+// For each rate, seven to a row, and each place of its pattern. What stands behind the pattern is never looked at.
 const SENT_KINDS: [Sent; 35] = [
-    Both, Neither, Neither, Neither, Neither, Neither, Neither, Both, OnlyY, Both, OnlyY, Neither,
-    Neither, Neither, Both, OnlyY, OnlyX, Neither, Neither, Neither, Neither, Both, OnlyY, OnlyX,
-    OnlyY, OnlyX, Neither, Neither, Both, OnlyY, OnlyY, OnlyY, OnlyX, OnlyY, OnlyX,
+    Both, Both, Both, Both, Both, Both, Both, Both, OnlyY, Both, OnlyY, Both, Both, Both, Both,
+    OnlyY, OnlyX, Both, Both, Both, Both, Both, OnlyY, OnlyX, OnlyY, OnlyX, Both, Both, Both,
+    OnlyY, OnlyY, OnlyY, OnlyX, OnlyY, OnlyX,
 ];
 
 // The decisions on the coded bits of a step as one number, 9 x + y, of which the decoder takes its branch metrics; and the first coded bit after it.
@@ -48,18 +47,18 @@ fn step_of(pairs: &[u8], sent: Sent, j: usize) -> DepuncturedStep
     requires { (j + width (kind_of sent) ≤ 2 * length pairs.now) × Pairs pairs.now }
     ensures { (result.pair ≡ step_pair pairs.now (kind_of sent) j) × (result.next ≡ j + width (kind_of sent)) }
 {
+    let a = decision_at(pairs, j);
     match sent {
-        Sent::Neither => DepuncturedStep { pair: 80, next: j },
         Sent::OnlyY => DepuncturedStep {
-            pair: 72 + decision_at(pairs, j),
+            pair: 72 + a,
             next: j + 1,
         },
         Sent::OnlyX => DepuncturedStep {
-            pair: 9 * decision_at(pairs, j) + 8,
+            pair: 9 * a + 8,
             next: j + 1,
         },
         Sent::Both => DepuncturedStep {
-            pair: 9 * decision_at(pairs, j) + decision_at(pairs, j + 1),
+            pair: 9 * a + decision_at(pairs, j + 1),
             next: j + 2,
         },
     }
@@ -80,10 +79,12 @@ fn spread_places(pairs: &[u8], rate: usize, pattern: usize, n: usize, output: &m
     requires { (rate < qpsk_count) × (pattern ≡ pattern_length rate) × (0 < pattern) × (pattern ≤ 7) × (first rate n ≤ 2 * length pairs.now) × (n ≤ length output.old) × Pairs pairs.now }
     ensures { (length output.new ≡ length output.old) × ((t : ℕ) → t < n → get_or output.new t 0 ≡ run_step pairs.now rate t) }
 {
+    // Once, and not in each turn: a compiler lays the table out where it is looked into.
+    let kinds = SENT_KINDS;
     let mut place = 0;
     let mut j = 0;
     for k in 0..n {
-        let sent = SENT_KINDS[7 * rate + place];
+        let sent = kinds[7 * rate + place];
         let step = step_of(pairs, sent, j);
         output[k] = step.pair;
         j = step.next;

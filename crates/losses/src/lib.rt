@@ -14,8 +14,8 @@ ghost use Rattle.losses.specs.Run.{ListsRecording};
 
 use answer::Refusal;
 use group_sync::GroupSync;
-use receiver::Receiver;
-use reception_counts::{Counts, outcome_number};
+use receiver::{Receiver, answer_number, receive_in_place};
+use reception_counts::Counts;
 
 // What is known of the places of the packets that were given. Both cases have a meaning of their own, and None would not tell which it is.
 #[derive(Clone, Copy)]
@@ -51,14 +51,7 @@ struct Decided {
     count: usize,
 }
 
-// The number of the answer of a call of the receiver, and the receiver after it.
-#[derive(Clone, Copy)]
-struct Called {
-    number: u8,
-    receiver: Receiver,
-}
-
-// The same, what is known of the places after it, and how many lines were written.
+// The number of the answer of a call of the receiver, the receiver after it, what is known of the places, and how many lines were written.
 #[derive(Clone, Copy)]
 pub struct BlockTaken {
     pub number: u8,
@@ -191,20 +184,13 @@ fn decide(
     }
 }
 
-// A call of the receiver: the number of its answer, and the receiver after it, which is as it was where the call was refused.
-fn call_receiver(receiver: Receiver, block: &[u8], marks: &[u8], output: &mut [u8]) -> Called
-    ensures { ReceivesMarked receiver block.now marks.now output.old result.number result.receiver output.new }
+// A call of the receiver, which is changed in place: the number of its answer. A Result that held the receiver would be laid out with zeros in each call.
+fn call_receiver(receiver: &mut Receiver, block: &[u8], marks: &[u8], output: &mut [u8]) -> u8
+    ensures { ReceivesMarked receiver.old block.now marks.now output.old result receiver.new output.new }
 {
-    match receiver.receive_marked(block, marks, output) {
-        Ok(received) => Called {
-            number: outcome_number(received.outcome),
-            receiver: received.receiver,
-        },
-        Err(refusal) => Called {
-            number: refusal.number(),
-            receiver,
-        },
-    }
+    let most = common::largest_of(&receiver.marks);
+    let valid = receiver.in_range();
+    answer_number(receive_in_place(receiver, valid, most == 0, block, marks, output))
 }
 
 // Takes a block with its marks by a call of the receiver, which writes a packet to the output, and writes the lines that it decides.
@@ -219,22 +205,23 @@ pub fn take_block(
     requires { Watched receiver certainty × (waiting_of certainty < length lines.old) × (188 ≤ length output.old) }
     ensures { TakesBlock receiver certainty block.now marks.now output.old lines.old result.number result.count result.receiver result.certainty output.new lines.new }
 {
-    let due = start_due(receiver.sync.place);
-    let taken = receiver.counts.taken;
-    let called = call_receiver(receiver, block, marks, output);
+    let mut next = receiver;
+    let due = start_due(next.sync.place);
+    let taken = next.counts.taken;
+    let number = call_receiver(&mut next, block, marks, output);
     if taken < 11 {
         return BlockTaken {
-            number: called.number,
-            receiver: called.receiver,
+            number,
+            receiver: next,
             certainty,
             count: 0,
         };
     }
-    let start = started(called.receiver.sync.place);
-    let decided = decide(certainty, taken - 11, called.number, due, start, lines);
+    let start = started(next.sync.place);
+    let decided = decide(certainty, taken - 11, number, due, start, lines);
     BlockTaken {
-        number: called.number,
-        receiver: called.receiver,
+        number,
+        receiver: next,
         certainty: decided.certainty,
         count: decided.count,
     }
@@ -400,6 +387,8 @@ impl LossStream {
     }
 
     // Takes a piece of the received bytes, of any length, with a mark for each or none at all, and writes the lines that are decided then.
+    // In line, so that a caller gets no Result that holds a stream, which would be laid out with zeros.
+    #[inline(always)]
     pub fn feed(self, piece: &[u8], marks: &[u8], lines: &mut [u64]) -> Result<LossesFed, Refusal>
         ensures { FeedsLosses self piece.now marks.now lines.old (answered result) (given_or 0 (λ s. s.count) result) (given_or self (λ s. s.stream) result) lines.new }
     {

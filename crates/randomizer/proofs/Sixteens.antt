@@ -1,13 +1,12 @@
--- A packet that is xored with its masks sixteen bytes at a time: eleven times sixteen, and the last sixteen, of which four are there already.
+-- A packet that is xored with its masks, byte by byte.
 -- Assumes nothing.
-use mathlib.Core.Path.{◌≡◌, sym, ap, ap₂, ◌∙◌, subst}
+use mathlib.Core.Path.{◌≡◌, sym, ap, ap₂, ◌∙◌}
 use mathlib.Core.List.{List, [], ◌∷◌, ◌++◌, zip_with}
-use Prim.Native.Nat.{ℕ, suc, ◌+◌, ◌*◌, ◌≤◌, ◌<◌}
-use native.Mathlib.Decide.{dec_lt}
+use Prim.Native.Nat.{ℕ, suc, ◌+◌, ◌*◌, ◌<◌}
 use native.Mathlib.Omega.{arith}
 use lib.Bits.{bit_xor}
 use lib.ListN.{length, get_or, take, drop, set}
-use lib.Seq.{take-suc, take-suc-set, take-take, take_all}
+use lib.Seq.{take-suc, take-suc-set, take_all}
 use Rattle.randomizer.specs.Prbs.{masks}
 use Rattle.randomizer.specs.Masks.{Table, Begun}
 use Rattle.randomizer.specs.Packet.{randomized}
@@ -40,28 +39,6 @@ module _ (place : ℕ) (packet table : List ℕ) (n : length table ≡ 188) wher
       next : i + 1 ≡ suc i
       next = omega arith
 
-  -- fewer are there too
-  pub begun_less : (m k : ℕ) (r : List ℕ) → m ≤ k → Begun place packet table k r → Begun place packet table m r
-  begun_less m k r h b = (b.0, b.1, sym (take-take m k r h) ∙ ap (take m) b.2 ∙ take-take m k (randomized place packet) h)
-
-  -- where all are there, so is any number of them
-  begun_all : (k : ℕ) (r : List ℕ) → length r ≡ 188 → 188 ≤ k → Begun place packet table 188 r → Begun place packet table k r
-  begun_all k r l h b = (
-    b.0,
-    b.1,
-    take_all k r (omega arith) ∙ sym (take_all 188 r (omega arith)) ∙ b.2
-        ∙ take_all 188 (randomized place packet) (omega (arith, length_sent b.1 b.0)) ∙ sym (take_all k (randomized place packet) (omega (arith, length_sent b.1 b.0))),
-  )
-
-  -- sixteen more than sixteen times k, or all of them
-  pub begun_rounded : (k at : ℕ) (r : List ℕ) → length r ≡ 188 → (k < 11 → at ≡ 16 * k) → (11 ≤ k → at ≡ 172) → Begun place packet table (at + 16) r
-      → Begun place packet table (16 * (k + 1)) r
-  begun_rounded k at r l low high b = go (dec_lt k 11)
-    where
-      go : Dec (k < 11) → Begun place packet table (16 * (k + 1)) r
-      go (yes h) =
-          let e : at + 16 ≡ 16 * (k + 1) = omega (arith, low h) in
-          subst (λ (i : ℕ). Begun place packet table i r) e b
-      go (no h) =
-          let e : at + 16 ≡ 188 = omega (arith, high (omega arith)) in
-          begun_all (16 * (k + 1)) r l (omega arith) (subst (λ (i : ℕ). Begun place packet table i r) e b)
+  -- all of them
+  pub begun_whole : (r : List ℕ) → length r ≡ 188 → Begun place packet table 188 r → r ≡ randomized place packet
+  begun_whole r l b = sym (take_all 188 r (omega arith)) ∙ b.2 ∙ take_all 188 (randomized place packet) (omega (arith, length_sent b.1 b.0))

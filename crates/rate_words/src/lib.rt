@@ -2,7 +2,7 @@
 // Inner: a part of the programs. docs/ARCHITECTURE.md names the public surface.
 #![tactic(auto)]
 
-ghost use Rattle.std.specs.Prelude.{◌≡◌, unwrap_or};
+ghost use Rattle.std.specs.Prelude.{◌≡◌, ◌<◌, true, is_some, unwrap_or};
 ghost use Rattle.program_io.specs.Words.{word_bytes};
 ghost use Rattle.rate_words.specs.Words.{mode_named};
 
@@ -10,7 +10,8 @@ use program_io::Word;
 
 // The mode that a word names. Not every mode that has a name is sent, and not every one is read.
 pub fn mode_of(word: Word) -> Option<u8>
-    ensures { unwrap_or result 6 ≡ mode_named (word_bytes word) }
+    ensures names { unwrap_or result 6 ≡ mode_named (word_bytes word) }
+    ensures known { is_some result ≡ true → unwrap_or result 6 < 6 }
 {
     if word.is(b"0") || word.is(b"1/2") {
         return Some(0);

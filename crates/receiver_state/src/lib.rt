@@ -63,6 +63,7 @@ pub fn read_state(bytes: &[u8]) -> Receiver
 }
 
 // Writes the fields to their places. The place and what is missed are side by side, and so are the counts.
+#[inline(always)]
 fn put_fields(
     cells: &[u8],
     positions: &[u8],
@@ -82,7 +83,8 @@ fn put_fields(
     common::put(marks, MARKS, bytes);
 }
 
-// The bytes that stand for a receiver.
+// The bytes that stand for a receiver. In line, with its fields, so that a receiver that a caller has just made goes straight to its bytes.
+#[inline(always)]
 pub fn write_state(receiver: Receiver, bytes: &mut [u8])
     requires { length bytes.old ≡ 2322 }
     ensures { bytes.new ≡ state_bytes receiver }

@@ -188,6 +188,8 @@ impl ReceiverStream {
     }
 
     // Takes a piece of the received bytes, of any length, with a mark for each, and writes the packets of the blocks that are whole then.
+    // In line, so that a caller gets no Result that holds a stream, which would be laid out with zeros.
+    #[inline(always)]
     pub fn feed(self, piece: &[u8], marks: &[u8], output: &mut [u8]) -> Result<ReceiverFed, Refusal>
         ensures { FeedsReceiver self piece.now marks.now output.old (answered result) (given_or 0 (λ s. s.count) result) (given_or self (λ s. s.stream) result) output.new }
     {

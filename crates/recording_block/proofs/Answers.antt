@@ -7,7 +7,8 @@ use mathlib.Core.Logic.{◌⊎◌, inl, inr}
 use Prim.Native.Nat.{ℕ, ◌*◌, ◌≤◌, ◌<◌}
 use native.Mathlib.Decide.{dec_lt}
 use native.Mathlib.Omega.{arith}
-use Rattle.std.proofs.Common.{Err}
+use Rattle.std.proofs.Common.{Ok, Err}
+use Rattle.std.specs.Result.{result_unwrap_or}
 use borrow.Author.Tests.{eq-eqb, ne_eqb, ltb-false}
 use lib.Dec.{eqb, ltb}
 use lib.IntN.{pos}
@@ -15,8 +16,6 @@ use lib.ListN.{length, take, replicate}
 use lib.Seq.{length-take-le}
 use Rattle.common.specs.Choice.{pick}
 use Rattle.answer.specs.Number as numbers
-use Rattle.answer.specs.declared.Refusal.{Refusal}
-use Rattle.answer.specs.declared.Refusal.TheVariants.{Uncorrectable, BlockLength}
 use Rattle.program_io.specs.Checksum.{no_bytes, traced}
 use Rattle.program_io.specs.Words.{digits, value_from, sized, parsed}
 use Rattle.program_io.specs.Files.{origin_argument, origin_start, input_ended, input_failed, output_failed, output_trace, OpenedInput, FreshOutput, Fills}
@@ -28,10 +27,11 @@ use Rattle.program_io.specs.declared.output.Output.{Output}
 use Rattle.program_io.specs.declared.input.Filled.{Filled}
 use Rattle.program_io.specs.declared.calls.Asked.{Asked}
 use Rattle.program_io.specs.declared.calls.Asked.TheVariants.{Help, Version, Work}
-use Rattle.reed_solomon.specs.Decode.{Decoded, Decodes, changed_by}
+use Rattle.reed_solomon.specs.Code.{no_change}
+use Rattle.reed_solomon.specs.Decode.{Decoded, changed_by}
 use Rattle.reed_solomon.specs.declared.Changed.{Changed}
 use Rattle.recording_block.specs.declared.BlockRequest.TheVariants.{Block, Other}
-use Rattle.recording.specs.Block.{block_count, GivesBlock, block_refused, block_decoded}
+use Rattle.recording.specs.Block.{block_count, GivesBlock}
 use Rattle.recording_block.specs.Ends.{BlockAnswered, as_block, block_in, request_of}
 
 -- ---- a number that was read
@@ -96,15 +96,10 @@ module _ (p : ℕ) {input : Input} {buffer : List ℕ} {f : Filled} (o : OpenedI
     written = w;
   }
 
--- a refusal has a number other than 0
-refusal_number : (came left : List ℕ) (refusal : Refusal) → Decodes came left (Err refusal) → numbers.number_of refusal ≡ 0 → ⊥
-refusal_number came left Uncorrectable d e = omega arith
-refusal_number came left BlockLength d e = omega arith
-refusal_number came left _ d e = d
-
-pub refused_number : {bytes output exit : List ℕ} {blocks p : ℕ} {refusal : Refusal} → GivesBlock bytes blocks p output (Err refusal) exit → numbers.number_of refusal ≡ 0 → ⊥
-refused_number (block_refused h n c w) e = omega arith
-refused_number {refusal = refusal} (block_decoded left h d w) e = refusal_number _ left refusal d e
+-- what was changed, where there is nothing for a refusal
+pub told_changes : (d : Decoded) → result_unwrap_or d no_change ≡ changed_by d
+told_changes (Ok changed) = refl
+told_changes (Err refusal) = refl
 
 pub nothing_written : (number : ℕ) (block : List ℕ) (output : Output) → FreshOutput (pos 1) output → (number ≡ 0 → ⊥)
     → output_trace output ≡ traced no_bytes (pick (eqb number 0) block [])

@@ -100,13 +100,12 @@ fn give_block(system: &mut System, p: u64, input: Input) -> Ended
     }
     let blocks = recording::block::whole_blocks(&buffer[..n]);
     let decoded = recording::block::decoded_block(&buffer[..n], blocks, 0, &mut block);
-    let changed = match decoded {
-        Ok(changed) => changed,
-        Err(refusal) => {
-            let number = refusal.number();
-            return finish(system, p, number, Changed::NONE, input, output, errors);
-        }
-    };
+    let number = answer::answered(&decoded);
+    let changed = decoded.unwrap_or(Changed::NONE);
+    let refused = number != 0;
+    if refused {
+        return finish(system, p, number, changed, input, output, errors);
+    }
     let output = output.write(system, b"standard output", &block);
     if output.failed() {
         return Ended {
@@ -116,7 +115,7 @@ fn give_block(system: &mut System, p: u64, input: Input) -> Ended
             errors,
         };
     }
-    finish(system, p, 0, changed, input, output, errors)
+    finish(system, p, number, changed, input, output, errors)
 }
 
 // Tells that no recording has such a block.

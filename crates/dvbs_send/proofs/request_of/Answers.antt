@@ -9,7 +9,7 @@ use mathlib.Core.Path.{subst}
 use Rattle.dvbs_send.proofs.request_of.Goals as goal
 
 pub returns-then-count-eq1 : goal.returns-then-count-eq1
-returns-then-count-eq1 c = one_word c.args.count (word_bytes c.args.first) (word_bytes c.args.second) c.if-count-eq1.true (c.unwrap_or.ensures ∙ c.mode_of.ensures)
+returns-then-count-eq1 c = one_word c.args.count (word_bytes c.args.first) (word_bytes c.args.second) c.if-count-eq1.true (c.unwrap_or.ensures ∙ c.mode_of.ensures.names)
 
 pub returns-then-count-ne2 : goal.returns-then-count-ne2
 returns-then-count-ne2 c = other_count c.args.count (word_bytes c.args.first) (word_bytes c.args.second) c.if-count-eq1.false c.if-count-ne2.true
@@ -23,4 +23,4 @@ pub returns : goal.returns
 returns c =
     two_words c.args.count (word_bytes c.args.first) (word_bytes c.args.second) c.if-count-eq1.false c.if-count-ne2.false
     (subst (λ (b : Bool). b ≡ same_bytes (word_bytes c.args.first) flush_word) c.if-not-is.false c.is.ensures)
-    (c.unwrap_or-2.ensures ∙ c.mode_of-2.ensures)
+    (c.unwrap_or-2.ensures ∙ c.mode_of-2.ensures.names)

@@ -7,7 +7,7 @@ use Rattle.losses.proofs.take_block.Goals as goal
 
 pub returns-then-taken-lt11 : goal.returns-then-taken-lt11
 returns-then-taken-lt11 c =
-    filling_block c.args.receiver c.args.certainty c.requires.2 c.call_receiver-called.ensures c.if-taken-lt11.true c.args.lines.now
+    filling_block c.args.receiver c.args.certainty c.requires.2 c.call_receiver-number.ensures c.if-taken-lt11.true c.args.lines.now
 
 pub decide-decided-requires : goal.decide-decided-requires
 decide-decided-requires c =
@@ -18,4 +18,4 @@ decide-decided-requires c =
 pub returns : goal.returns
 returns c =
     let d = c.decide-decided in
-    decided_block c.args.receiver c.args.certainty c.requires.2 c.call_receiver-called.ensures (omega (arith, c.if-taken-lt11.false)) _ _ _ c.args.lines.now _ _ c.start_due-due.ensures c.started-start.ensures d.ensures.0 d.ensures.1
+    decided_block c.args.receiver c.args.certainty c.requires.2 c.call_receiver-number.ensures (omega (arith, c.if-taken-lt11.false)) _ _ _ c.args.lines.now _ _ c.start_due-due.ensures c.started-start.ensures d.ensures.0 d.ensures.1

@@ -18,4 +18,4 @@ pub returns : goal.returns
 returns c =
     let a = c.args in
     let n = c.count.ensures in
-    (c.unwrap_or.ensures ∙ c.mode_of.ensures) ∙ sym (ap (λ (t : Bool). pick t (mode_named (word_bytes a.word)) 6) (eq-eqb _ 1 (sym n ∙ c.if-count-ne1.false)))
+    (c.unwrap_or.ensures ∙ c.mode_of.ensures.names) ∙ sym (ap (λ (t : Bool). pick t (mode_named (word_bytes a.word)) 6) (eq-eqb _ 1 (sym n ∙ c.if-count-ne1.false)))

@@ -1,25 +1,7 @@
 -- `block_sync::BlockSync::feed` meets its contract.
 -- Assumes nothing.
-use mathlib.Core.Path.{◌≡◌, subst, ap}
-use mathlib.Core.List.{List}
-use Prim.Native.Nat.{ℕ, ◌-◌}
-use native.Mathlib.Omega.{arith}
-use lib.ListN.{length}
-use Rattle.block_sync.specs.Feed.{gathered_step, TurnsBuffer, refused, gathered, turned}
-use Rattle.block_sync.proofs.Buffers.{gathers, filled_is}
-use borrow.Author.Rules.{rules}
+use Rattle.block_sync.specs.Feed.{refused}
 use Rattle.block_sync.proofs.BlockSync.feed.Goals as goal
 
-pub returns-then-held-ge8168 : goal.returns-then-held-ge8168
-returns-then-held-ge8168 c = refused c.if-held-ge8168.true
-
-pub returns-then-piece-space : goal.returns-then-piece-space
-returns-then-piece-space c =
-    let size : length c.args.self.bits ≡ 8168 = search rules in
-    gathered (omega arith) (ap (gathered_step (length c.args.piece.now)) (gathers c.args.self c.args.piece.now _ size (omega arith) c.joined-bits.ensures))
-
-pub returns : goal.returns
-returns c =
-    let size : length c.args.self.bits ≡ 8168 = search rules in
-    turned (omega arith) (omega arith)
-    (subst (λ (l : List ℕ). TurnsBuffer (8168 - c.args.self.held) c.args.self.lock l c.turn.result) (filled_is c.args.self c.args.piece.now _ size (omega arith) (omega arith) c.joined-buffer.ensures) c.turn.ensures)
+pub returns-then-self-ge8168 : goal.returns-then-self-ge8168
+returns-then-self-ge8168 c = refused c.if-self-ge8168.true
